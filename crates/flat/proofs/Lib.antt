@@ -1,0 +1,13 @@
+pub mod Orders
+pub mod States
+pub mod Accepted
+pub mod Moving
+pub mod Linking
+pub mod Unlinking
+pub mod Writing
+pub mod Fresh
+pub mod Loops
+pub mod Neighbours
+pub mod Usage
+pub mod Knowing
+pub mod Held

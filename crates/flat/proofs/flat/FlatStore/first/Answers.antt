@@ -1,0 +1,8 @@
+use Rattle.flat.proofs.Held.{taken-sound, taken-fields}
+use Rattle.flat.proofs.flat.FlatStore.first.Needs as need
+
+pub first-r-requires : need.first-r-requires
+first-r-requires c κs = taken-sound (c .args .self .now) (c .replace-cells .result) (c .replace-cells .ensures .value)
+
+pub ghost-self : need.ghost-self
+ghost-self c = taken-fields (c .args .self .now) (c .replace-cells .result) (c .replace-cells .ensures .value)

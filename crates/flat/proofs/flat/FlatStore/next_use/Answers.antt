@@ -1,0 +1,8 @@
+use Rattle.flat.proofs.Held.{taken-sound, taken-fields}
+use Rattle.flat.proofs.flat.FlatStore.next_use.Needs as need
+
+pub next-use-r-requires : need.next-use-r-requires
+next-use-r-requires c κs = taken-sound (c .args .self .now) (c .replace-cells .result) (c .replace-cells .ensures .value)
+
+pub ghost-self : need.ghost-self
+ghost-self c = taken-fields (c .args .self .now) (c .replace-cells .result) (c .replace-cells .ensures .value)

@@ -1,0 +1,2 @@
+pub mod FlatModel
+pub mod Keeping

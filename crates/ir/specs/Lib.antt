@@ -1,0 +1,5 @@
+pub mod Operations
+pub mod Instructions
+pub mod Values
+pub mod Reports
+pub mod Making

@@ -1,0 +1,15 @@
+use mathlib.Core.Path.{_≡_}
+use Prim.Native.Nat.{_+_}
+use lib.ListN.{length}
+use Rattle.program.specs.Programs.{at}
+use Rattle.runs.specs.Runs.{count-outs, outs}
+use Rattle.runs.specs.Walks.{from, Stands}
+use Rattle.runs.proofs.running.count_outs.Given as given
+
+abbrev pub Inv-loop-placed : given.InvT-loop-placed
+Inv-loop-placed g l =
+    let p = g .S·Store .program (l .entry .store) in
+    (g .S·Store .program (l .store) ≡ p) × Stands (l .cursor .at) (p .order) × (l .count + count-outs (at p) (from (l .cursor .at) (p .order)) ≡ outs p)
+
+abbrev pub μ-loop-placed : given.MeasureT-loop-placed
+μ-loop-placed g l = length (from (l .cursor .at) (g .S·Store .program (l .store) .order))
