@@ -5,7 +5,7 @@ use Prim.Native.Nat.{ℕ, zero, suc, _≤_}
 use native.Mathlib.Omega.{arith}
 use lib.ListN.{replicate}
 use Rattle.std.proofs.shelf.Lists.{length-replicate}
-use Rattle.std.specs.declared.option.Option.the-variants.{None}
+use Rattle.std.specs.declared.option.Option.the-variants.{Some, None}
 use Rattle.flat.specs.declared.cells.FlatCell.the-variants.{Vacant}
 use Rattle.program.specs.Programs.{program-of, new-program}
 use Rattle.flat.specs.FlatModel.{content, placed-count, order-of, rank-at, flat-program, Sound}
@@ -24,11 +24,14 @@ content-fresh : (m : ℕ) → map content (replicate m Vacant) ≡ replicate m N
 content-fresh zero = refl
 content-fresh (suc m) = ap (λ cs. None ∷ cs) (content-fresh m)
 
+no-rank : (m n r : ℕ) → rank-at (replicate m Vacant) n ≡ Some r → ⊥
+no-rank m n r e = let f = rank-fresh m n in let z : _≡_ {A = ℕ} 0 1 = cc in omega arith
+
 ordered-fresh : (m : ℕ) → Ordered (replicate m Vacant) []
 ordered-fresh m = record {
   count = sym (count-fresh m);
-  low = λ n r e. let f = rank-fresh m n in let z : _≡_ {A = ℕ} 0 1 = cc in absurd (omega arith);
-  ranked = λ n r e. let f = rank-fresh m n in let z : _≡_ {A = ℕ} 0 1 = cc in absurd (omega arith);
+  low = λ n r e. absurd (no-rank m n r e);
+  ranked = λ n r e. absurd (no-rank m n r e);
   placed = λ j h. absurd (omega arith);
 }
 

@@ -44,7 +44,7 @@ module _ (f : ℕ → ℕ) where
       let e = rerank-count xs in
       omega arith
 
-count-set : (xs : List FlatCell) (n : ℕ) (x : FlatCell) → n < length xs → placed-count (set xs n x) + weight (rank-at xs n) ≡ placed-count xs + weight (rank-of x)
+pub count-set : (xs : List FlatCell) (n : ℕ) (x : FlatCell) → n < length xs → placed-count (set xs n x) + weight (rank-at xs n) ≡ placed-count xs + weight (rank-of x)
 count-set [] n x h = absurd (omega arith)
 count-set (y ∷ ys) zero x h = omega arith
 count-set (y ∷ ys) (suc n) x h = let e = count-set ys n x (omega arith) in omega arith

@@ -1,8 +1,8 @@
 -- A write to a cell that keeps its rank: make, unmake and rewrite.
-use mathlib.Core.Path.{_≡_, refl, sym, ap, _∙_}
+use mathlib.Core.Path.{_≡_, sym, ap, _∙_}
 use mathlib.Core.Logic.{⊎-elim}
-use mathlib.Core.List.{List, [], _∷_, map}
-use Prim.Native.Nat.{ℕ, zero, suc, _+_, _<_}
+use mathlib.Core.List.{List, map}
+use Prim.Native.Nat.{ℕ, _<_}
 use native.Mathlib.Omega.{arith}
 use lib.ListN.{length, getD, set}
 use Rattle.std.proofs.shelf.Lists.{getD-set-same, getD-set-other, length-set, map-set}
@@ -11,13 +11,9 @@ use Rattle.flat.specs.declared.cells.FlatCell.{FlatCell}
 use Rattle.flat.specs.declared.cells.FlatCell.the-variants.{Vacant}
 use Rattle.program.specs.Programs.{program-of}
 use Rattle.program.specs.Commands.{put}
-use Rattle.flat.specs.FlatModel.{content, rank-of, weight, placed-count, order-of, rank-at, flat-program, Sound}
+use Rattle.flat.specs.FlatModel.{content, rank-of, weight, order-of, rank-at, flat-program, Sound}
+use Rattle.flat.proofs.Moving.{count-set}
 use Rattle.flat.proofs.Orders.{Ordered, ordered-from-sound, order-unique, sound-from-ordered}
-
-count-kept : (xs : List FlatCell) (n : ℕ) (x : FlatCell) → rank-of x ≡ rank-at xs n → placed-count (set xs n x) ≡ placed-count xs
-count-kept [] n x e = refl
-count-kept (y ∷ ys) zero x e = ap (λ o. weight o + placed-count ys) e
-count-kept (y ∷ ys) (suc n) x e = ap (λ k. weight (rank-of y) + k) (count-kept ys n x e)
 
 module _ (xs : List FlatCell) (n : ℕ) (x : FlatCell) (within : n < length xs) (same : rank-of x ≡ rank-at xs n) where
   rank-kept : (m : ℕ) → rank-at (set xs n x) m ≡ rank-at xs m
@@ -29,7 +25,7 @@ module _ (xs : List FlatCell) (n : ℕ) (x : FlatCell) (within : n < length xs) 
 
   ordered-kept : (o : List ℕ) → Ordered xs o → Ordered (set xs n x) o
   ordered-kept o is = record {
-    count = is .count ∙ sym (count-kept xs n x same);
+    count = let k = is .count in let c = count-set xs n x within in let w : weight (rank-of x) ≡ weight (rank-at xs n) = ap weight same in omega arith;
     low = λ m r e. is .low m r (sym (rank-kept m) ∙ e);
     ranked = λ m r e. is .ranked m r (sym (rank-kept m) ∙ e);
     placed = λ j h. rank-kept (getD o j 0) ∙ is .placed j h;

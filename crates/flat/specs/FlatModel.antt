@@ -65,6 +65,7 @@ find-rank j (c ∷ cs) = cond (is-rank j (rank-of c)) 0 (suc (find-rank j cs))
 abbrev pub order-of : List FlatCell → List ℕ
 order-of cells = map (λ j. find-rank j cells) (counting 0 (placed-count cells))
 
+-- the program that the cells stand for
 abbrev pub flat-program : List FlatCell → Program
 flat-program cells = record { cells = map content cells; order = order-of cells }
 
@@ -89,7 +90,7 @@ pub record Sound (cells : List FlatCell) : Type 0 where
   pub low : Low cells
   pub apart : Apart cells
 
--- ---- steps of the code
+-- ---- what one step of the code does
 
 -- the cell with its rank, where it has one, changed
 abbrev pub rerank : (ℕ → ℕ) → FlatCell → FlatCell

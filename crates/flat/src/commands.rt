@@ -1,4 +1,4 @@
-// The five commands, and the clearing of cells.
+// The five commands, as `Store` has them, and the clearing of cells.
 ghost use mathlib.Core.Path.{_≡_};
 ghost use lib.ListN.{length, replicate};
 ghost use Rattle.std.specs.declared.option.Option.the-variants.{Some};

@@ -41,6 +41,7 @@ pub fn rewrite_fault(cells: &[FlatCell], n: u32, what: Record) -> Option<StoreFa
     checks::rewrite_fault(known, what, a, b, c)
 }
 
+// An anchor as the checks take it.
 fn look_anchor(cells: &[FlatCell], anchor: Option<u32>) -> Option<Known>
     requires { ⌜ Sound (now cells) ⌝ }
     ensures { λ r. ⌜ Right-anchor (flat-program (now (cells .entry))) anchor r ⌝ }

@@ -1,4 +1,4 @@
-// The readings.
+// The readings, as `Store` has them.
 ghost use mathlib.Core.Path.{_≡_};
 ghost use Rattle.std.specs.Results.{mapped};
 ghost use Rattle.ir.specs.Instructions.{plain};

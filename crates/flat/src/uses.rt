@@ -19,6 +19,7 @@ fn is_beyond(after: Option<(u32, u8)>, user: u32, position: u8) -> bool
     }
 }
 
+// The use at one position, if it is one and is beyond the pair.
 fn use_at(
     present: bool,
     x: u32,
@@ -71,6 +72,7 @@ pub fn least_use(cells: &[FlatCell], n: u32, after: Option<(u32, u8)>) -> Option
     None
 }
 
+// 1 if there is a use at the position.
 fn count_at(present: bool, x: u32, n: u32) -> u32
     ensures few { λ r. ⌜ r ≤ 1 ⌝ }
     ensures count { λ r. ⌜ ((u k : ℕ) → r ≡ length (one-use present x n (u, k))) ⌝ }

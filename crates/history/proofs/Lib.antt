@@ -1,0 +1,4 @@
+pub mod Works
+pub mod Histories
+pub mod UseLists
+pub mod Lists

@@ -1,0 +1,3 @@
+pub mod Striking
+pub mod Law
+pub mod Entering

@@ -1,0 +1,11 @@
+pub mod Removals
+pub mod Words
+pub mod Valid
+pub mod Making
+pub mod Keeping
+pub mod Known
+pub mod Folding
+pub mod Replacements
+pub mod Rules
+pub mod Trials
+pub mod Passes

@@ -1,0 +1,20 @@
+// Laws of the six rewrite rules, each the contract of a function that computes nothing.
+ghost use Rattle.rules.specs.Laws.{Rules-keep-outputs, Rules-by-commands, Trial-law, Trial-first, Spared-pass-law, Second-pass-law};
+
+// Each rule keeps a program proper, well formed and its outputs, and is made by commands that the store accepts and a journal takes back.
+pub fn rules_keep_outputs()
+    ensures kept { λ _. ⌜ Rules-keep-outputs ⌝ }
+    ensures commands { λ _. ⌜ Rules-by-commands ⌝ }
+{}
+
+// A trial keeps the first rule that lowers the price, or changes nothing.
+pub fn trials_lower_prices()
+    ensures lower { λ _. ⌜ Trial-law ⌝ }
+    ensures first { λ _. ⌜ Trial-first ⌝ }
+{}
+
+// A pass ends where no trial keeps a rule, or where the records run out, and a second one does nothing.
+pub fn passes_settle()
+    ensures passed { λ _. ⌜ Spared-pass-law ⌝ }
+    ensures again { λ _. ⌜ Second-pass-law ⌝ }
+{}

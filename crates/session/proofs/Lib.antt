@@ -1,0 +1,5 @@
+pub mod Stacks
+pub mod Rows
+pub mod Trails
+pub mod Steps
+pub mod Sweeps
