@@ -16,7 +16,7 @@ use crate::ranks;
 use ir::instruction::Record;
 use program::fault::StoreFault;
 
-pub fn clear(cells: &mut [FlatCell])
+pub(crate) fn clear(cells: &mut [FlatCell])
     ensures { λ _. ⌜ now (cells .exit) ≡ replicate (length (now (cells .entry))) Vacant ⌝ }
 {
     for i in 0..cells.len() {
@@ -24,7 +24,7 @@ pub fn clear(cells: &mut [FlatCell])
     }
 }
 
-pub fn make(cells: &mut [FlatCell], n: u32, what: Record) -> Result<(), StoreFault>
+pub(crate) fn make(cells: &mut [FlatCell], n: u32, what: Record) -> Result<(), StoreFault>
     requires { ⌜ Sound (now cells) ⌝ }
     ensures answer { λ r. ⌜ r ≡ verdict (make-fault (flat-program (now (cells .entry))) n (plain what)) ⌝ }
     ensures after { λ _. ⌜ flat-program (now (cells .exit)) ≡ after-make (flat-program (now (cells .entry))) n (plain what) ⌝ }
@@ -39,7 +39,7 @@ pub fn make(cells: &mut [FlatCell], n: u32, what: Record) -> Result<(), StoreFau
     }
 }
 
-pub fn link(cells: &mut [FlatCell], n: u32, anchor: Option<u32>) -> Result<(), StoreFault>
+pub(crate) fn link(cells: &mut [FlatCell], n: u32, anchor: Option<u32>) -> Result<(), StoreFault>
     requires { ⌜ Sound (now cells) ⌝ }
     ensures answer { λ r. ⌜ r ≡ verdict (link-fault (flat-program (now (cells .entry))) n anchor) ⌝ }
     ensures after { λ _. ⌜ flat-program (now (cells .exit)) ≡ after-link (flat-program (now (cells .entry))) n anchor ⌝ }
@@ -57,7 +57,7 @@ pub fn link(cells: &mut [FlatCell], n: u32, anchor: Option<u32>) -> Result<(), S
     }
 }
 
-pub fn unlink(cells: &mut [FlatCell], n: u32) -> Result<(), StoreFault>
+pub(crate) fn unlink(cells: &mut [FlatCell], n: u32) -> Result<(), StoreFault>
     requires { ⌜ Sound (now cells) ⌝ }
     ensures answer { λ r. ⌜ r ≡ verdict (placed-fault (flat-program (now (cells .entry))) n) ⌝ }
     ensures after { λ _. ⌜ flat-program (now (cells .exit)) ≡ after-unlink (flat-program (now (cells .entry))) n ⌝ }
@@ -75,7 +75,7 @@ pub fn unlink(cells: &mut [FlatCell], n: u32) -> Result<(), StoreFault>
     }
 }
 
-pub fn unmake(cells: &mut [FlatCell], n: u32) -> Result<(), StoreFault>
+pub(crate) fn unmake(cells: &mut [FlatCell], n: u32) -> Result<(), StoreFault>
     requires { ⌜ Sound (now cells) ⌝ }
     ensures answer { λ r. ⌜ r ≡ verdict (unmake-fault (flat-program (now (cells .entry))) n) ⌝ }
     ensures after { λ _. ⌜ flat-program (now (cells .exit)) ≡ after-unmake (flat-program (now (cells .entry))) n ⌝ }
@@ -101,7 +101,7 @@ fn rewritten(cell: FlatCell, what: Record) -> FlatCell
     }
 }
 
-pub fn rewrite(cells: &mut [FlatCell], n: u32, what: Record) -> Result<(), StoreFault>
+pub(crate) fn rewrite(cells: &mut [FlatCell], n: u32, what: Record) -> Result<(), StoreFault>
     requires { ⌜ Sound (now cells) ⌝ }
     ensures answer { λ r. ⌜ r ≡ verdict (rewrite-fault (flat-program (now (cells .entry))) n (plain what)) ⌝ }
     ensures after { λ _. ⌜ flat-program (now (cells .exit)) ≡ after-rewrite (flat-program (now (cells .entry))) n (plain what) ⌝ }

@@ -12,14 +12,14 @@ use program::checks;
 use program::checks::Known;
 use program::fault::StoreFault;
 
-pub fn range_fault(cells: &[FlatCell], n: u32) -> Option<StoreFault>
+pub(crate) fn range_fault(cells: &[FlatCell], n: u32) -> Option<StoreFault>
     requires { ⌜ Sound (now cells) ⌝ }
     ensures { λ r. ⌜ r ≡ range-fault (flat-program (now (cells .entry))) n ⌝ }
 {
     checks::range_fault(look(cells, n))
 }
 
-pub fn make_fault(cells: &[FlatCell], n: u32, what: Record) -> Option<StoreFault>
+pub(crate) fn make_fault(cells: &[FlatCell], n: u32, what: Record) -> Option<StoreFault>
     requires { ⌜ Sound (now cells) ⌝ }
     ensures { λ r. ⌜ r ≡ make-fault (flat-program (now (cells .entry))) n (plain what) ⌝ }
 {
@@ -30,7 +30,7 @@ pub fn make_fault(cells: &[FlatCell], n: u32, what: Record) -> Option<StoreFault
     checks::make_fault(known, what, a, b, c)
 }
 
-pub fn rewrite_fault(cells: &[FlatCell], n: u32, what: Record) -> Option<StoreFault>
+pub(crate) fn rewrite_fault(cells: &[FlatCell], n: u32, what: Record) -> Option<StoreFault>
     requires { ⌜ Sound (now cells) ⌝ }
     ensures { λ r. ⌜ r ≡ rewrite-fault (flat-program (now (cells .entry))) n (plain what) ⌝ }
 {
@@ -52,7 +52,7 @@ fn look_anchor(cells: &[FlatCell], anchor: Option<u32>) -> Option<Known>
     }
 }
 
-pub fn link_fault(cells: &[FlatCell], n: u32, anchor: Option<u32>) -> Option<StoreFault>
+pub(crate) fn link_fault(cells: &[FlatCell], n: u32, anchor: Option<u32>) -> Option<StoreFault>
     requires { ⌜ Sound (now cells) ⌝ }
     ensures { λ r. ⌜ r ≡ link-fault (flat-program (now (cells .entry))) n anchor ⌝ }
 {
@@ -61,14 +61,14 @@ pub fn link_fault(cells: &[FlatCell], n: u32, anchor: Option<u32>) -> Option<Sto
     checks::link_fault(known, at)
 }
 
-pub fn placed_fault(cells: &[FlatCell], n: u32) -> Option<StoreFault>
+pub(crate) fn placed_fault(cells: &[FlatCell], n: u32) -> Option<StoreFault>
     requires { ⌜ Sound (now cells) ⌝ }
     ensures { λ r. ⌜ r ≡ placed-fault (flat-program (now (cells .entry))) n ⌝ }
 {
     checks::placed_fault(look(cells, n))
 }
 
-pub fn unmake_fault(cells: &[FlatCell], n: u32) -> Option<StoreFault>
+pub(crate) fn unmake_fault(cells: &[FlatCell], n: u32) -> Option<StoreFault>
     requires { ⌜ Sound (now cells) ⌝ }
     ensures { λ r. ⌜ r ≡ unmake-fault (flat-program (now (cells .entry))) n ⌝ }
 {
@@ -77,7 +77,7 @@ pub fn unmake_fault(cells: &[FlatCell], n: u32) -> Option<StoreFault>
     checks::unmake_fault(known, unused)
 }
 
-pub fn busy_fault(cells: &[FlatCell], n: u32) -> Option<StoreFault>
+pub(crate) fn busy_fault(cells: &[FlatCell], n: u32) -> Option<StoreFault>
     requires { ⌜ Sound (now cells) ⌝ }
     ensures { λ r. ⌜ r ≡ busy-fault (flat-program (now (cells .entry))) n ⌝ }
 {

@@ -9,7 +9,7 @@ use program::checks::Known;
 use program::state::State;
 
 // The cell of a number; past the end, as if it were free.
-pub fn cell_at(cells: &[FlatCell], n: u32) -> FlatCell
+pub(crate) fn cell_at(cells: &[FlatCell], n: u32) -> FlatCell
     ensures { λ r. ⌜ r ≡ getD (now (cells .entry)) n Vacant ⌝ }
 {
     if (n as usize) < cells.len() {
@@ -30,7 +30,7 @@ fn state_of(cell: FlatCell) -> State
 }
 
 // The rank of a cell, if it has one.
-pub fn rank_of(cell: FlatCell) -> Option<u32>
+pub(crate) fn rank_of(cell: FlatCell) -> Option<u32>
     ensures { λ r. ⌜ r ≡ rank-of cell ⌝ }
 {
     match cell {
@@ -40,7 +40,7 @@ pub fn rank_of(cell: FlatCell) -> Option<u32>
 }
 
 // The number with its state, for the checks.
-pub fn look(cells: &[FlatCell], n: u32) -> Known
+pub(crate) fn look(cells: &[FlatCell], n: u32) -> Known
     requires { ⌜ Sound (now cells) ⌝ }
     ensures { λ r. ⌜ Right (flat-program (now (cells .entry))) n r ⌝ }
 {

@@ -21,7 +21,7 @@ fn weight_of(rank: Option<u32>) -> u32
 }
 
 // How many numbers are placed.
-pub fn count_placed(cells: &[FlatCell]) -> u32
+pub(crate) fn count_placed(cells: &[FlatCell]) -> u32
     requires { ⌜ length (now cells) ≤ 1024 ⌝ }
     ensures { λ r. ⌜ r ≡ length (order-of (now (cells .entry))) ⌝ }
 {
@@ -43,7 +43,7 @@ fn is_rank(rank: Option<u32>, j: u32) -> bool
 }
 
 // The number at a place of the order, if there is one.
-pub fn number_at(cells: &[FlatCell], j: u32) -> Option<u32>
+pub(crate) fn number_at(cells: &[FlatCell], j: u32) -> Option<u32>
     requires { ⌜ Sound (now cells) ⌝ }
     ensures { λ r. ⌜ r ≡ nth (order-of (now (cells .entry))) j ⌝ }
 {
@@ -57,7 +57,7 @@ pub fn number_at(cells: &[FlatCell], j: u32) -> Option<u32>
 }
 
 // The number before a place of the order, if there is one.
-pub fn number_before(cells: &[FlatCell], j: u32) -> Option<u32>
+pub(crate) fn number_before(cells: &[FlatCell], j: u32) -> Option<u32>
     requires { ⌜ Sound (now cells) ⌝ }
     ensures { λ r. ⌜ r ≡ prior (order-of (now (cells .entry))) j ⌝ }
 {
@@ -65,7 +65,7 @@ pub fn number_before(cells: &[FlatCell], j: u32) -> Option<u32>
 }
 
 // The place of a number in the order; one that is not placed counts as past the end.
-pub fn place_of(cells: &[FlatCell], n: u32) -> u32
+pub(crate) fn place_of(cells: &[FlatCell], n: u32) -> u32
     requires { ⌜ Sound (now cells) ⌝ }
     ensures { λ r. ⌜ r ≡ index-of n (order-of (now (cells .entry))) ⌝ }
 {
@@ -76,7 +76,7 @@ pub fn place_of(cells: &[FlatCell], n: u32) -> u32
 }
 
 // Where a link puts a number: the anchor's place, or the end.
-pub fn place_for(cells: &[FlatCell], anchor: Option<u32>) -> u32
+pub(crate) fn place_for(cells: &[FlatCell], anchor: Option<u32>) -> u32
     requires { ⌜ Sound (now cells) ⌝ }
     ensures { λ r. ⌜ r ≡ anchor-place (flat-program (now (cells .entry))) anchor ⌝ }
 {

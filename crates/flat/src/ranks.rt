@@ -26,7 +26,7 @@ fn raised(cell: FlatCell, at: u32) -> FlatCell
 }
 
 // Moves the ranks from `at` on up by one.
-pub fn open_rank(cells: &mut [FlatCell], at: u32)
+pub(crate) fn open_rank(cells: &mut [FlatCell], at: u32)
     requires { ⌜ Sound (now cells) ⌝ }
     ensures { λ _. ⌜ now (cells .exit) ≡ map (rerank (up at)) (now (cells .entry)) ⌝ }
 {
@@ -53,7 +53,7 @@ fn lowered(cell: FlatCell, at: u32) -> FlatCell
 }
 
 // Moves the ranks above `at` down by one.
-pub fn close_rank(cells: &mut [FlatCell], at: u32)
+pub(crate) fn close_rank(cells: &mut [FlatCell], at: u32)
     ensures { λ _. ⌜ now (cells .exit) ≡ map (rerank (down at)) (now (cells .entry)) ⌝ }
 {
     for i in 0..cells.len() {
@@ -63,7 +63,7 @@ pub fn close_rank(cells: &mut [FlatCell], at: u32)
 }
 
 // The cell with its record, if it has one, at a rank.
-pub fn ranked(cell: FlatCell, at: u32) -> FlatCell
+pub(crate) fn ranked(cell: FlatCell, at: u32) -> FlatCell
     ensures content { λ r. ⌜ content r ≡ content cell ⌝ }
     ensures rank { λ r. ⌜ (busy (content cell) ≡ true → rank-of r ≡ Some at) ⌝ }
 {
@@ -75,7 +75,7 @@ pub fn ranked(cell: FlatCell, at: u32) -> FlatCell
 }
 
 // The cell with its record, if it has one, at no rank.
-pub fn unranked(cell: FlatCell) -> FlatCell
+pub(crate) fn unranked(cell: FlatCell) -> FlatCell
     ensures content { λ r. ⌜ content r ≡ content cell ⌝ }
     ensures rank { λ r. ⌜ rank-of r ≡ None ⌝ }
 {

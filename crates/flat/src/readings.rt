@@ -18,7 +18,7 @@ use ir::instruction::Record;
 use program::fault::StoreFault;
 use program::state::State;
 
-pub fn state(cells: &[FlatCell], n: u32) -> Result<State, StoreFault>
+pub(crate) fn state(cells: &[FlatCell], n: u32) -> Result<State, StoreFault>
     requires { ⌜ Sound (now cells) ⌝ }
     ensures { λ r. ⌜ r ≡ state-answer (flat-program (now (cells .entry))) n ⌝ }
 {
@@ -28,7 +28,7 @@ pub fn state(cells: &[FlatCell], n: u32) -> Result<State, StoreFault>
     }
 }
 
-pub fn read(cells: &[FlatCell], n: u32) -> Result<Record, StoreFault>
+pub(crate) fn read(cells: &[FlatCell], n: u32) -> Result<Record, StoreFault>
     requires { ⌜ Sound (now cells) ⌝ }
     ensures { λ r. ⌜ mapped plain (λ f. f) r ≡ read-answer (flat-program (now (cells .entry))) n ⌝ }
 {
@@ -42,14 +42,14 @@ pub fn read(cells: &[FlatCell], n: u32) -> Result<Record, StoreFault>
     }
 }
 
-pub fn first(cells: &[FlatCell]) -> Option<u32>
+pub(crate) fn first(cells: &[FlatCell]) -> Option<u32>
     requires { ⌜ Sound (now cells) ⌝ }
     ensures { λ r. ⌜ r ≡ first-of (flat-program (now (cells .entry))) ⌝ }
 {
     number_at(cells, 0)
 }
 
-pub fn last(cells: &[FlatCell]) -> Option<u32>
+pub(crate) fn last(cells: &[FlatCell]) -> Option<u32>
     requires { ⌜ Sound (now cells) ⌝ }
     ensures { λ r. ⌜ r ≡ last-of (flat-program (now (cells .entry))) ⌝ }
 {
@@ -57,7 +57,7 @@ pub fn last(cells: &[FlatCell]) -> Option<u32>
     number_before(cells, count)
 }
 
-pub fn next(cells: &[FlatCell], n: u32) -> Result<Option<u32>, StoreFault>
+pub(crate) fn next(cells: &[FlatCell], n: u32) -> Result<Option<u32>, StoreFault>
     requires { ⌜ Sound (now cells) ⌝ }
     ensures { λ r. ⌜ r ≡ next-answer (flat-program (now (cells .entry))) n ⌝ }
 {
@@ -70,7 +70,7 @@ pub fn next(cells: &[FlatCell], n: u32) -> Result<Option<u32>, StoreFault>
     }
 }
 
-pub fn previous(cells: &[FlatCell], n: u32) -> Result<Option<u32>, StoreFault>
+pub(crate) fn previous(cells: &[FlatCell], n: u32) -> Result<Option<u32>, StoreFault>
     requires { ⌜ Sound (now cells) ⌝ }
     ensures { λ r. ⌜ r ≡ previous-answer (flat-program (now (cells .entry))) n ⌝ }
 {
@@ -83,7 +83,7 @@ pub fn previous(cells: &[FlatCell], n: u32) -> Result<Option<u32>, StoreFault>
     }
 }
 
-pub fn count_uses(cells: &[FlatCell], n: u32) -> Result<u32, StoreFault>
+pub(crate) fn count_uses(cells: &[FlatCell], n: u32) -> Result<u32, StoreFault>
     requires { ⌜ Sound (now cells) ⌝ }
     ensures { λ r. ⌜ r ≡ count-answer (flat-program (now (cells .entry))) n ⌝ }
 {
@@ -93,7 +93,7 @@ pub fn count_uses(cells: &[FlatCell], n: u32) -> Result<u32, StoreFault>
     }
 }
 
-pub fn next_use(
+pub(crate) fn next_use(
     cells: &[FlatCell],
     n: u32,
     after: Option<(u32, u8)>,

@@ -59,7 +59,7 @@ fn use_by(cell: FlatCell, n: u32, after: Option<(u32, u8)>, user: u32) -> Option
 }
 
 // The least use that is greater than a pair, where there is one.
-pub fn least_use(cells: &[FlatCell], n: u32, after: Option<(u32, u8)>) -> Option<(u32, u8)>
+pub(crate) fn least_use(cells: &[FlatCell], n: u32, after: Option<(u32, u8)>) -> Option<(u32, u8)>
     requires { ⌜ length (now cells) ≤ 1024 ⌝ }
     ensures { λ r. ⌜ r ≡ least-beyond after (uses (flat-program (now (cells .entry))) n) ⌝ }
 {
@@ -103,7 +103,7 @@ fn count_by(cell: FlatCell, n: u32) -> u32
 }
 
 // How many uses a number has.
-pub fn count_all(cells: &[FlatCell], n: u32) -> u32
+pub(crate) fn count_all(cells: &[FlatCell], n: u32) -> u32
     requires { ⌜ length (now cells) ≤ 1024 ⌝ }
     ensures { λ r. ⌜ r ≡ length (uses (flat-program (now (cells .entry))) n) ⌝ }
 {

@@ -1,9 +1,6 @@
 // Two routines that work under held saves and give every token its due.
-ghost use mathlib.Core.Path.{_≡_};
-ghost use mathlib.Core.Bool.{true};
-ghost use Rattle.std.specs.Results.{isOk};
 ghost use Rattle.session.specs.Meaning.{meaning};
-ghost use Rattle.routines.specs.Held.{Back, detached};
+ghost use Rattle.routines.specs.Held.{Back, For-good};
 use program::store::Store;
 use session::fault::SessionFault;
 use session::session::Session;
@@ -17,7 +14,7 @@ pub enum Stopped {
 
 // Whether a number could be detached; the session is as it was.
 pub fn could_detach<S: Store, M>(session: &mut Session<S, M>, n: u32) -> Result<bool, Stopped>
-    ensures { λ r. ⌜ Back (meaning program (now (session .entry))) (meaning program (now (session .exit))) r ⌝ }
+    ensures { λ r. ⌜ Back n (meaning program (now (session .entry))) (meaning program (now (session .exit))) r ⌝ }
 {
     let token = match session.hold() {
         Ok(token) => token,
@@ -35,7 +32,7 @@ pub fn could_detach<S: Store, M>(session: &mut Session<S, M>, n: u32) -> Result<
 
 // Detaches a number for good under a held save, then asks under a second one whether another number could be detached too.
 pub fn detach_for_good<S: Store, M>(session: &mut Session<S, M>, n: u32, other: u32) -> Result<bool, Stopped>
-    ensures { λ r. ⌜ (isOk r ≡ true → meaning program (now (session .exit)) ≡ detached n (meaning program (now (session .entry)))) ⌝ }
+    ensures { λ r. ⌜ For-good n other (meaning program (now (session .entry))) (meaning program (now (session .exit))) r ⌝ }
 {
     let token = match session.hold() {
         Ok(token) => token,

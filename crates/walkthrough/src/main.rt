@@ -1,4 +1,5 @@
 // A walk through the bench: an irrigation script is made, placed, listed, priced and run, with one refusal on the way.
+mod saves;
 mod script;
 mod show;
 
@@ -53,5 +54,6 @@ fn main(rt: LibcRuntime) -> io::Result<()> {
     prices(&rt, &mut store)?;
     println!(rt, "\n5. Two runs. Inputs: 0 soil moisture in percent, 1 rain sensor, 2 minutes asked for.")?;
     run(&rt, &mut store, "Dry soil, no rain, 20 minutes:", &script::DRY)?;
-    run(&rt, &mut store, "Dry soil, rain:", &script::RAIN)
+    run(&rt, &mut store, "Dry soil, rain:", &script::RAIN)?;
+    saves::tour(&rt)
 }
