@@ -24,7 +24,7 @@ few-after [] n h = omega arith
 few-after (v ∷ vs) n h = h
 
 -- with no save present, the entries of h lead from p to q
-abbrev Replays : Program → List Entry → Program → Type 0
+abbrev pub Replays : Program → List Entry → Program → Type 0
 Replays p [] q = p ≡ q
 Replays p (e ∷ h) q = (m : Program) × (act-step (e .act) (fresh p) ≡ to (fresh m) (e .answer)) × Accepted (e .answer) × Replays m h q
 
@@ -47,16 +47,16 @@ replayed-accepted p q (e ∷ h) r = (r .2, replayed-accepted (r .0) q h (r .3))
 
 module _ (p₀ : Program) where
   -- the bundles, the program and the saves fit together
-  abbrev Holds : List Entry → List (List Entry) → Program → List Save → Type 0
+  abbrev pub Holds : List Entry → List (List Entry) → Program → List Save → Type 0
   Holds t [] p [] = Replays p₀ t p
   Holds t [] p (v ∷ vs) = ⊥
   Holds t (b ∷ bs) p [] = ⊥
   Holds t (b ∷ bs) p (v ∷ vs) = Replays (v .program) t p × (v .left ≤ 512) × Holds b bs (v .program) vs
 
-  abbrev Good : Bundles → Copying → Type 0
+  abbrev pub Good : Bundles → Copying → Type 0
   Good b s = (s .left ≤ 512) × Holds (b .top) (b .below) (s .program) (s .saves)
 
-  abbrev Kept : Bundles → Act → Step Answer → Type 0
+  abbrev pub Kept : Bundles → Act → Step Answer → Type 0
   Kept b a t = Good (strike b a (t .answer)) (t .after)
 
   extend : (t h : List Entry) (bs : List (List Entry)) (p q : Program) (vs : List Save) → Holds t bs p vs → Replays p h q → Holds (t ++ h) bs q vs
@@ -115,13 +115,13 @@ module _ (p₀ : Program) where
           (r .few, extend (b .top) (entry (work w) (Ok (r .value)) ∷ []) (b .below) (s .program) (r .program) (s .saves) (g .1) (r .program, r .again, tt, refl)))
       (steady w s (g .0))
 
-  keeps : (a : Act) (b : Bundles) (s : Copying) → Good b s → Kept b a (act-step a s)
+  pub keeps : (a : Act) (b : Bundles) (s : Copying) → Good b s → Kept b a (act-step a s)
   keeps (work w) b s g = work-keeps b s w g
   keeps (begin held) b s g = begin-keeps b s held g
   keeps (end accepting held d) b s g = accept-keeps s (b .top) (b .below) (s .saves) held d g (g .1)
   keeps (end reverting held d) b s g = revert-keeps s (b .top) (b .below) (s .saves) held d g (g .1)
 
-  all-keep : (acts : List Act) (b : Bundles) (s : Copying) → Good b s → Good (strike-all b acts (answers acts s)) (final acts s)
+  pub all-keep : (acts : List Act) (b : Bundles) (s : Copying) → Good b s → Good (strike-all b acts (answers acts s)) (final acts s)
   all-keep [] b s g = g
   all-keep (a ∷ more) b s g = all-keep more (strike b a (act-step a s .answer)) (act-step a s .after) (keeps a b s g)
 

@@ -28,6 +28,11 @@ pub record Repeats (p : Program) (acts : List Act) (rs : List Answer) (q : Progr
   pub same-answers : answers (acts-of (history acts rs)) (fresh p) ≡ answers-of (history acts rs)
   pub same-program : final (acts-of (history acts rs)) (fresh p) .program ≡ q
 
+-- a second list, if it is the surviving history of the calls and began at the same program, got the answers that it got before, all of them accepted, and ended at the same program
+abbrev pub Again : Program → List Act → List Answer → Program → Program → List Act → List Answer → Program → Type 0
+Again p acts rs q p₂ more got q₂ =
+    p₂ ≡ p → more ≡ acts-of (history acts rs) → (got ≡ answers-of (history acts rs)) × All-accepted got × (q₂ ≡ q)
+
 -- what one reads who asks for the least use of v, then for the least beyond the last one, until there is none
 abbrev pub Read-out : Program → ℕ → Option (ℕ × ℕ) → List (ℕ × ℕ) → Type 0
 Read-out p v after [] = use-answer p v after ≡ Ok None

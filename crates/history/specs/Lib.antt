@@ -1,3 +1,4 @@
 pub mod Striking
 pub mod Law
 pub mod Entering
+pub mod Piles

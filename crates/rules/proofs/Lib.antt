@@ -9,3 +9,7 @@ pub mod Replacements
 pub mod Rules
 pub mod Trials
 pub mod Passes
+pub mod Unused
+pub mod Logs
+pub mod Literals
+pub mod Numbers

@@ -1,3 +1,4 @@
 pub mod Rules
 pub mod Trials
 pub mod Laws
+pub mod Changes

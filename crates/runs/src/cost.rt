@@ -38,6 +38,7 @@ fn delay_of(op: Op) -> u32
 }
 
 // The memory that a program takes: the sum of its instructions' bytes.
+#[derive(Clone, Copy)]
 pub struct Size;
 
 pub impl CostModel for Size as SizeCost {
@@ -53,6 +54,7 @@ pub impl CostModel for Size as SizeCost {
 }
 
 // The time until a program's last value is there.
+#[derive(Clone, Copy)]
 pub struct Delay;
 
 pub impl CostModel for Delay as DelayCost {

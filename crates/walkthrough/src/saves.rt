@@ -65,7 +65,7 @@ fn answers(rt: &impl Print, calls: &[Call], replies: &[Reply]) -> io::Result<()>
 }
 
 fn same_record(x: Record, y: Record) -> bool {
-    x.op.code() == y.op.code() && x.literal == y.literal && x.a == y.a && x.b == y.b && x.c == y.c
+    x.op.letter() == y.op.letter() && x.literal == y.literal && x.a == y.a && x.b == y.b && x.c == y.c
 }
 
 // The number that follows, or one that no store has.
@@ -105,11 +105,10 @@ fn same_program<S: Store, T: Store, M>(one: &mut Session<S, M>, other: &mut Sess
 }
 
 // Enters what survives in a second session, and says whether it comes to the same program.
-fn again<S: Store>(rt: &impl Print, first: &mut Session<S, Size>, kept: &[Call]) -> io::Result<()> {
+fn again<S: Store, T: Store + Drop>(rt: &impl Print, first: &mut Session<S, Size>, other: T, kept: &[Call]) -> io::Result<()> {
     println!(rt, "\n7. The {} calls that survive, entered in a new session on another store.", kept.len())?;
-    let mut cells = [FlatCell::Vacant; CELLS];
     let mut replies = [Reply::Accepted(0); CALLS];
-    let Ok(mut second) = enter(Flat::new(&mut cells), Size, kept, &mut replies) else {
+    let Ok(mut second) = enter(other, Size, kept, &mut replies) else {
         return println!(rt, "  no room for the replies");
     };
     answers(rt, kept, &replies)?;
@@ -118,10 +117,9 @@ fn again<S: Store>(rt: &impl Print, first: &mut Session<S, Size>, kept: &[Call])
 }
 
 // Enters the list, shows every call with its answer, the program it leaves, and what survives.
-fn entered(rt: &impl Print, calls: &[Call]) -> io::Result<()> {
-    let mut cells = [FlatCell::Vacant; CELLS];
+fn entered<S: Store + Drop, T: Store + Drop>(rt: &impl Print, store: S, other: T, calls: &[Call]) -> io::Result<()> {
     let mut replies = [Reply::Accepted(0); CALLS];
-    let Ok(mut session) = enter(Flat::new(&mut cells), Size, calls, &mut replies) else {
+    let Ok(mut session) = enter(store, Size, calls, &mut replies) else {
         return println!(rt, "  no room for the replies");
     };
     answers(rt, calls, &replies)?;
@@ -129,15 +127,17 @@ fn entered(rt: &impl Print, calls: &[Call]) -> io::Result<()> {
     show::listing_of(rt, &mut session)?;
     let mut kept = [Call::Save; CALLS];
     match survivors(calls, &replies, &mut kept) {
-        Ok(count) if count <= CALLS => again(rt, &mut session, &kept[..count]),
+        Ok(count) if count <= CALLS => again(rt, &mut session, other, &kept[..count]),
         _ => println!(rt, "  no room for the history"),
     }
 }
 
 pub fn tour(rt: &impl Print) -> io::Result<()> {
     println!(rt, "\n6. A list of calls with saves in saves, kept or taken back, and held saves.")?;
+    let mut cells = [FlatCell::Vacant; CELLS];
+    let mut others = [FlatCell::Vacant; CELLS];
     match calls() {
-        Ok(list) => entered(rt, &list),
+        Ok(list) => entered(rt, Flat::new(&mut cells), Flat::new(&mut others), &list),
         Err(_) => println!(rt, "  a record of the list is out of shape"),
     }
 }

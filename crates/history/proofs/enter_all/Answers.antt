@@ -11,7 +11,7 @@ use Rattle.session.specs.Meaning.{meaning}
 use Rattle.history.specs.Law.{Repeats}
 use Rattle.history.proofs.Histories.{repeats}
 use Rattle.history.proofs.UseLists.{uses-read}
-use Rattle.history.proofs.enter.Needs as need
+use Rattle.history.proofs.enter_all.Needs as need
 
 pub returns : need.returns
 returns g c =
