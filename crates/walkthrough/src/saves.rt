@@ -7,6 +7,9 @@ use history::enter;
 use history::survivors::survivors;
 use ir::instruction::Record;
 use ir::maker::RecordFault;
+use linked::cells::BLANK;
+use linked::linked::Linked;
+use linked::linked::LinkedStore;
 use program::fault::StoreFault;
 use program::store::Store;
 use runs::cost::Size;
@@ -106,7 +109,7 @@ fn same_program<S: Store, T: Store, M>(one: &mut Session<S, M>, other: &mut Sess
 
 // Enters what survives in a second session, and says whether it comes to the same program.
 fn again<S: Store, T: Store + Drop>(rt: &impl Print, first: &mut Session<S, Size>, other: T, kept: &[Call]) -> io::Result<()> {
-    println!(rt, "\n7. The {} calls that survive, entered in a new session on another store.", kept.len())?;
+    println!(rt, "\n7. The {} calls that survive, entered in a new session on the other kind of store, the linked one.", kept.len())?;
     let mut replies = [Reply::Accepted(0); CALLS];
     let Ok(mut second) = enter(other, Size, kept, &mut replies) else {
         return println!(rt, "  no room for the replies");
@@ -135,9 +138,9 @@ fn entered<S: Store + Drop, T: Store + Drop>(rt: &impl Print, store: S, other: T
 pub fn tour(rt: &impl Print) -> io::Result<()> {
     println!(rt, "\n6. A list of calls with saves in saves, kept or taken back, and held saves.")?;
     let mut cells = [FlatCell::Vacant; CELLS];
-    let mut others = [FlatCell::Vacant; CELLS];
+    let mut others = [BLANK; CELLS];
     match calls() {
-        Ok(list) => entered(rt, Flat::new(&mut cells), Flat::new(&mut others), &list),
+        Ok(list) => entered(rt, Flat::new(&mut cells), Linked::new(&mut others), &list),
         Err(_) => println!(rt, "  a record of the list is out of shape"),
     }
 }

@@ -1,0 +1,13 @@
+pub mod Columns
+pub mod Orders
+pub mod Splicing
+pub mod Placing
+pub mod Flats
+pub mod Walks
+pub mod Counting
+pub mod Makes
+pub mod Usage
+pub mod Ordering
+pub mod Fresh
+pub mod Knowing
+pub mod Held

@@ -1,0 +1,8 @@
+use Rattle.linked.proofs.Held.{taken-sound, taken-fields}
+use Rattle.linked.proofs.linked.LinkedStore.first.Needs as need
+
+pub first-r-requires : need.first-r-requires
+first-r-requires c κs = taken-sound (c .args .self .now) (c .replace-cells .result) (c .replace-cells .ensures .value)
+
+pub ghost-self : need.ghost-self
+ghost-self c = taken-fields (c .args .self .now) (c .replace-cells .result) (c .replace-cells .ensures .value)
