@@ -19,8 +19,8 @@ pub enum Command {
 
 // Gives the command to a store.
 pub fn apply<S: Store>(store: &mut S, command: Command) -> Result<(), StoreFault>
-    ensures answer { result ≡ verdict (fault_of (program store.old) (edit_of command)) }
-    ensures after { program store.new ≡ after-edit (program store.old) (edit_of command) }
+    ensures answer { result ≡ verdict (fault_of (S.program store.old) (edit_of command)) }
+    ensures after { S.program store.new ≡ after-edit (S.program store.old) (edit_of command) }
 {
     match command {
         Command::Make(n, what) => store.make(n, what),
@@ -33,8 +33,8 @@ pub fn apply<S: Store>(store: &mut S, command: Command) -> Result<(), StoreFault
 
 // What takes a command back, told from the store before it.
 pub fn opposite<S: Store>(store: &mut S, command: Command) -> Command
-    ensures answer { edit_of result ≡ opposite-of (program store.old) (edit_of command) }
-    ensures after { program store.new ≡ program store.old }
+    ensures answer { edit_of result ≡ opposite-of (S.program store.old) (edit_of command) }
+    ensures after { S.program store.new ≡ S.program store.old }
 {
     match command {
         Command::Make(n, _) => Command::Unmake(n),

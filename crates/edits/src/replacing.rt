@@ -31,8 +31,8 @@ pub fn reads(what: Record, n: u32) -> bool
 
 // Why m cannot be put for n.
 pub fn replace_refused<S: Store>(store: &mut S, n: u32, m: u32) -> Option<StoreFault>
-    ensures answer { result ≡ replace_fault (program store.old) n m }
-    ensures after { program store.new ≡ program store.old }
+    ensures answer { result ≡ replace_fault (S.program store.old) n m }
+    ensures after { S.program store.new ≡ S.program store.old }
 {
     let old = look(store, n);
     let new = look(store, m);

@@ -1,4 +1,6 @@
 // The flat store: one cell for each number, in memory that the caller lends.
+#![tactic(auto)]
+
 pub mod cells;
 mod commands;
 mod faults;

@@ -1,4 +1,6 @@
 // Whole lists of calls, entered in a new session, and the laws that hold after any of them.
+#![tactic(auto)]
+
 ghost use Rattle.std.specs.Prelude.{◌≤◌, length};
 ghost use Rattle.history.specs.Entering.{Made, EnteredIn, Entered, EnteredBoth};
 
@@ -11,7 +13,7 @@ use session::session::Session;
 // Makes the calls in order, refused ones too, and writes their replies to the front of the memory.
 fn answer_all<S: Store, M>(session: &mut Session<S, M>, calls: &[Call], replies: &mut [Reply])
     requires { length calls.now ≤ length replies.old }
-    ensures { Made program (length calls.now) calls.now session.old session.new replies.old replies.new }
+    ensures { Made S.program (length calls.now) calls.now session.old session.new replies.old replies.new }
 {
     for i in 0..calls.len() {
         let call = calls[i];
@@ -22,7 +24,7 @@ fn answer_all<S: Store, M>(session: &mut Session<S, M>, calls: &[Call], replies:
 // Opens a new session over the store and enters the calls, for whose replies there is room.
 fn enter_all<S: Store, M>(store: S, cost: M, calls: &[Call], replies: &mut [Reply]) -> Session<S, M>
     requires { length calls.now ≤ length replies.old }
-    ensures { EnteredIn program store calls.now replies.old replies.new result }
+    ensures { EnteredIn S.program store calls.now replies.old replies.new result }
 {
     let mut session = Session::new(store, cost);
     answer_all(&mut session, calls, replies);
@@ -37,7 +39,7 @@ pub fn enter<S: Store, M>(
     calls: &[Call],
     replies: &mut [Reply],
 ) -> Result<Session<S, M>, (S, M)>
-    ensures { Entered program store cost calls.now replies.old replies.new result }
+    ensures { Entered S.program store cost calls.now replies.old replies.new result }
 {
     if replies.len() < calls.len() {
         return Err((store, cost));

@@ -1,4 +1,6 @@
 // Results that anyone can work out by hand: some proved as one table, some shown by the program.
+#![tactic(auto)]
+
 ghost use Rattle.known.specs.Results.{KnownResults};
 
 use flat::cells::FlatCell;

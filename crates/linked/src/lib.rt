@@ -1,4 +1,6 @@
 // The linked store: a doubly linked order and threaded use lists, in memory that the caller lends.
+#![tactic(auto)]
+
 pub mod cells;
 mod commands;
 mod faults;

@@ -13,8 +13,8 @@ use ir::instruction::Record;
 
 // The record of a number; of a free one, the constant 0.
 pub fn record_at<S: Store>(store: &mut S, n: u32) -> Record
-    ensures answer { plain result ≡ at (program store.old) n }
-    ensures after { program store.new ≡ program store.old }
+    ensures answer { plain result ≡ at (S.program store.old) n }
+    ensures after { S.program store.new ≡ S.program store.old }
 {
     match store.read(n) {
         Ok(what) => what,
@@ -24,8 +24,8 @@ pub fn record_at<S: Store>(store: &mut S, n: u32) -> Record
 
 // The number behind a placed one; none behind a number that is not placed.
 pub fn next_of<S: Store>(store: &mut S, n: u32) -> Option<u32>
-    ensures answer { result ≡ next_of (program store.old) n }
-    ensures after { program store.new ≡ program store.old }
+    ensures answer { result ≡ next_of (S.program store.old) n }
+    ensures after { S.program store.new ≡ S.program store.old }
 {
     match store.next(n) {
         Ok(next) => next,
@@ -35,8 +35,8 @@ pub fn next_of<S: Store>(store: &mut S, n: u32) -> Option<u32>
 
 // A number with its state, for checks.
 pub fn look<S: Store>(store: &mut S, n: u32) -> Known
-    ensures answer { Right (program store.old) n result }
-    ensures after { program store.new ≡ program store.old }
+    ensures answer { Right (S.program store.old) n result }
+    ensures after { S.program store.new ≡ S.program store.old }
 {
     match store.state(n) {
         Ok(state) => Known {
@@ -54,8 +54,8 @@ pub fn look<S: Store>(store: &mut S, n: u32) -> Known
 
 // The least use of a number that is not free; of a free one, none.
 pub fn first_use<S: Store>(store: &mut S, n: u32) -> Option<(u32, u8)>
-    ensures answer { Busy (program store.old) n → result ≡ least_beyond None (uses (program store.old) n) }
-    ensures after { program store.new ≡ program store.old }
+    ensures answer { Busy (S.program store.old) n → result ≡ least_beyond None (uses (S.program store.old) n) }
+    ensures after { S.program store.new ≡ S.program store.old }
 {
     match store.next_use(n, None) {
         Ok(found) => found,
@@ -65,8 +65,8 @@ pub fn first_use<S: Store>(store: &mut S, n: u32) -> Option<(u32, u8)>
 
 // How many uses a number that is not free has; of a free one, none.
 pub fn use_count<S: Store>(store: &mut S, n: u32) -> u32
-    ensures answer { Busy (program store.old) n → result ≡ length (uses (program store.old) n) }
-    ensures after { program store.new ≡ program store.old }
+    ensures answer { Busy (S.program store.old) n → result ≡ length (uses (S.program store.old) n) }
+    ensures after { S.program store.new ≡ S.program store.old }
 {
     match store.count_uses(n) {
         Ok(count) => count,

@@ -1,4 +1,6 @@
 // Two routines that work under held saves and give every token its due.
+#![tactic(auto)]
+
 ghost use Rattle.session.specs.Meaning.{meaning};
 ghost use Rattle.routines.specs.Held.{Back, ForGood};
 
@@ -15,7 +17,7 @@ pub enum Stopped {
 
 // Whether a number could be detached; the session is as it was.
 pub fn could_detach<S: Store, M>(session: &mut Session<S, M>, n: u32) -> Result<bool, Stopped>
-    ensures { Back n (meaning program session.old) (meaning program session.new) result }
+    ensures { Back n (meaning S.program session.old) (meaning S.program session.new) result }
 {
     let token = match session.hold() {
         Ok(token) => token,
@@ -37,7 +39,7 @@ pub fn detach_for_good<S: Store, M>(
     n: u32,
     other: u32,
 ) -> Result<bool, Stopped>
-    ensures { ForGood n other (meaning program session.old) (meaning program session.new) result }
+    ensures { ForGood n other (meaning S.program session.old) (meaning S.program session.new) result }
 {
     let token = match session.hold() {
         Ok(token) => token,

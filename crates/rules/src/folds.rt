@@ -11,8 +11,8 @@ use program::store::Store;
 
 // The literal of an operand that is a constant, and 0 for an absent one.
 fn known<S: Store>(store: &mut S, present: bool, m: u32) -> Option<u32>
-    ensures answer { result ≡ known_literal (program store.old) present m }
-    ensures after { program store.new ≡ program store.old }
+    ensures answer { result ≡ known_literal (S.program store.old) present m }
+    ensures after { S.program store.new ≡ S.program store.old }
 {
     if !present {
         return Some(0);
@@ -27,8 +27,8 @@ fn known<S: Store>(store: &mut S, present: bool, m: u32) -> Option<u32>
 
 // Rule 2: an operation on constants becomes the constant of its value.
 pub fn fold<S: Store>(store: &mut S, n: u32) -> Change
-    ensures answer { change_of result ≡ model-fold (program store.old) n }
-    ensures after { program store.new ≡ program store.old }
+    ensures answer { change_of result ≡ model-fold (S.program store.old) n }
+    ensures after { S.program store.new ≡ S.program store.old }
 {
     let what = record_at(store, n);
     let count = what.op.operands();

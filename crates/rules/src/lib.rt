@@ -1,4 +1,6 @@
 // The six rewrite rules: which change each makes at a number, and their laws, each the contract of a function that computes nothing.
+#![tactic(auto)]
+
 ghost use Rattle.rules.specs.Changes.{RulesByNumber, RulesListed};
 ghost use Rattle.rules.specs.Laws.{RulesKeepOutputs, RulesByCommands, TrialLaw, TrialFirst, SparedPassLaw, SecondPassLaw};
 

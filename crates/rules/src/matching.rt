@@ -26,8 +26,8 @@ pub(crate) fn is_constant(what: Record) -> bool
 
 // Whether nothing reads a number. A free one is no operand.
 fn is_unused<S: Store>(store: &mut S, n: u32) -> bool
-    ensures answer { result ≡ unused (uses (program store.old) n) }
-    ensures after { program store.new ≡ program store.old }
+    ensures answer { result ≡ unused (uses (S.program store.old) n) }
+    ensures after { S.program store.new ≡ S.program store.old }
 {
     match store.next_use(n, None) {
         Ok(found) => found.is_none(),
@@ -37,8 +37,8 @@ fn is_unused<S: Store>(store: &mut S, n: u32) -> bool
 
 // Rule 1: what is no out and has no uses goes.
 pub fn dead<S: Store>(store: &mut S, n: u32) -> Change
-    ensures answer { change_of result ≡ model-dead (program store.old) n }
-    ensures after { program store.new ≡ program store.old }
+    ensures answer { change_of result ≡ model-dead (S.program store.old) n }
+    ensures after { S.program store.new ≡ S.program store.old }
 {
     let what = record_at(store, n);
     if is_out(what) {
@@ -53,8 +53,8 @@ pub fn dead<S: Store>(store: &mut S, n: u32) -> Change
 
 // Whether a number is the constant x.
 fn is<S: Store>(store: &mut S, m: u32, x: u32) -> bool
-    ensures answer { result ≡ model_is (program store.old) m x }
-    ensures after { program store.new ≡ program store.old }
+    ensures answer { result ≡ model_is (S.program store.old) m x }
+    ensures after { S.program store.new ≡ S.program store.old }
 {
     let what = record_at(store, m);
     is_constant(what) & (what.literal == x)
@@ -72,8 +72,8 @@ fn drop_if(test: bool, y: u32) -> Change
 
 // The other operand, where one of two is the constant x; b is looked at first.
 fn neutral<S: Store>(store: &mut S, x: u32, a: u32, b: u32) -> Change
-    ensures answer { change_of result ≡ model-neutral (program store.old) x a b }
-    ensures after { program store.new ≡ program store.old }
+    ensures answer { change_of result ≡ model-neutral (S.program store.old) x a b }
+    ensures after { S.program store.new ≡ S.program store.old }
 {
     if is(store, b, x) {
         return Change::DropFor(a);
@@ -86,8 +86,8 @@ fn neutral<S: Store>(store: &mut S, x: u32, a: u32, b: u32) -> Change
 
 // The operand that a pick takes, where its test is a constant.
 fn picked<S: Store>(store: &mut S, what: Record) -> Change
-    ensures answer { change_of result ≡ same_by (program store.old) (plain what) Op.Pick }
-    ensures after { program store.new ≡ program store.old }
+    ensures answer { change_of result ≡ same_by (S.program store.old) (plain what) Op.Pick }
+    ensures after { S.program store.new ≡ S.program store.old }
 {
     let test = record_at(store, what.a);
     if !is_constant(test) {
@@ -98,8 +98,8 @@ fn picked<S: Store>(store: &mut S, what: Record) -> Change
 
 // Rule 3: what has the value of an operand gives way to it.
 pub fn same<S: Store>(store: &mut S, n: u32) -> Change
-    ensures answer { change_of result ≡ by_op same_by (program store.old) n }
-    ensures after { program store.new ≡ program store.old }
+    ensures answer { change_of result ≡ by_op same_by (S.program store.old) n }
+    ensures after { S.program store.new ≡ S.program store.old }
 {
     let what = record_at(store, n);
     match what.op {
@@ -124,8 +124,8 @@ fn zero_if(test: bool) -> Change
 
 // Rule 4: what is always 0 becomes the constant 0.
 pub fn fixed<S: Store>(store: &mut S, n: u32) -> Change
-    ensures answer { change_of result ≡ by_op fixed_by (program store.old) n }
-    ensures after { program store.new ≡ program store.old }
+    ensures answer { change_of result ≡ by_op fixed_by (S.program store.old) n }
+    ensures after { S.program store.new ≡ S.program store.old }
 {
     let what = record_at(store, n);
     match what.op {

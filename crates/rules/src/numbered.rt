@@ -11,8 +11,8 @@ use program::store::Store;
 
 // The change that a rule, 1 to 6, makes at a number; there is no other rule.
 pub fn change_at<S: Store>(store: &mut S, rule: u32, n: u32) -> Change
-    ensures answer { change_of result ≡ rule_at (program store.old) rule n }
-    ensures after { program store.new ≡ program store.old }
+    ensures answer { change_of result ≡ rule_at (S.program store.old) rule n }
+    ensures after { S.program store.new ≡ S.program store.old }
 {
     match rule {
         1 => dead(store, n),

@@ -26,9 +26,9 @@ fn log_to(x: u32, limit: u32) -> u32
 
 // The k from 1 to 31 where a number is the constant 2 ^ k, and else 0.
 fn log<S: Store>(store: &mut S, m: u32) -> u32
-    ensures answer { result ≡ model-log (program store.old) m }
+    ensures answer { result ≡ model-log (S.program store.old) m }
     ensures below { result < 32 }
-    ensures after { program store.new ≡ program store.old }
+    ensures after { S.program store.new ≡ S.program store.old }
 {
     let what = record_at(store, m);
     if is_constant(what) {
@@ -67,8 +67,8 @@ fn shifted(a: u32, b: u32, by_b: u32, by_a: u32) -> Change
 
 // Rule 6: a product with a power of 2 becomes a shift.
 pub fn power<S: Store>(store: &mut S, n: u32) -> Change
-    ensures answer { change_of result ≡ by_op power_by (program store.old) n }
-    ensures after { program store.new ≡ program store.old }
+    ensures answer { change_of result ≡ by_op power_by (S.program store.old) n }
+    ensures after { S.program store.new ≡ S.program store.old }
 {
     let what = record_at(store, n);
     match what.op {

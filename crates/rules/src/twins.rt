@@ -31,18 +31,18 @@ fn same_record(x: Record, y: Record) -> bool
 
 // Where a walk along the order begins.
 fn start<S: Store>(store: &mut S) -> Option<u32>
-    ensures whole { from result (program store.old).order ≡ (program store.old).order }
-    ensures stands { Stands result (program store.old).order }
-    ensures after { program store.new ≡ program store.old }
+    ensures whole { from result (S.program store.old).order ≡ (S.program store.old).order }
+    ensures stands { Stands result (S.program store.old).order }
+    ensures after { S.program store.new ≡ S.program store.old }
 {
     store.first()
 }
 
 // The record of a placed number, and where the walk goes on.
 fn visit<S: Store>(store: &mut S, m: u32) -> (Record, Option<u32>)
-    requires { In m (program store.old).order }
-    ensures step { Step (program store.old) (Some m) result.1 m result.0 }
-    ensures after { program store.new ≡ program store.old }
+    requires { In m (S.program store.old).order }
+    ensures step { Step (S.program store.old) (Some m) result.1 m result.0 }
+    ensures after { S.program store.new ≡ S.program store.old }
 {
     let what = record_at(store, m);
     (what, next_of(store, m))
@@ -50,8 +50,8 @@ fn visit<S: Store>(store: &mut S, m: u32) -> (Record, Option<u32>)
 
 // Rule 5: what is no out gives way to the first instruction before it with an equal record.
 pub fn twin<S: Store>(store: &mut S, n: u32) -> Change
-    ensures answer { change_of result ≡ model-twin (program store.old) n }
-    ensures after { program store.new ≡ program store.old }
+    ensures answer { change_of result ≡ model-twin (S.program store.old) n }
+    ensures after { S.program store.new ≡ S.program store.old }
 {
     let what = record_at(store, n);
     if is_out(what) {

@@ -30,9 +30,9 @@ fn reads_marked(words: &[u32], what: Record) -> bool
 
 // The first placed instruction that reads one without a mark; each before it gets its mark.
 fn first_broken<S: Store>(store: &mut S, words: &mut [u32]) -> Option<u32>
-    requires { size (program store.old) ≤ length words.old }
-    ensures answer { result ≡ broken_words (at (program store.old)) words.old (program store.old).order }
-    ensures after { program store.new ≡ program store.old }
+    requires { size (S.program store.old) ≤ length words.old }
+    ensures answer { result ≡ broken_words (at (S.program store.old)) words.old (S.program store.old).order }
+    ensures after { S.program store.new ≡ S.program store.old }
 {
     let mut cursor = Cursor::start(store);
     while let Some(placed) = cursor.next(store) {
@@ -47,8 +47,8 @@ fn first_broken<S: Store>(store: &mut S, words: &mut [u32]) -> Option<u32>
 
 // The words are as many as the numbers, and the program is well formed; the words are then zero.
 pub(crate) fn check_form<S: Store>(store: &mut S, words: &mut [u32]) -> Result<(), RunFault>
-    ensures answer { result ≡ checked (price_fault (program store.old) (length words.old)) }
-    ensures after { program store.new ≡ program store.old }
+    ensures answer { result ≡ checked (price_fault (S.program store.old) (length words.old)) }
+    ensures after { S.program store.new ≡ S.program store.old }
     ensures cleared { is_ok result ≡ true → words.new ≡ zeros (length words.old) }
 {
     let size = store.size();

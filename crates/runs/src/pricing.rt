@@ -17,7 +17,7 @@ use program::store::Store;
 
 // The stamp of an instruction whose operands' stamps lie in the words.
 fn stamp_of<M: CostModel>(words: &[u32], what: Record) -> u32
-    ensures { result ≡ stamp_of costing (plain what) (word_at words.now) }
+    ensures { result ≡ stamp_of M.costing (plain what) (word_at words.now) }
 {
     let count = what.op.operands();
     let a = word_of(words, 0 < count, what.a);
@@ -28,10 +28,10 @@ fn stamp_of<M: CostModel>(words: &[u32], what: Record) -> u32
 
 // The price of the program over words that hold anything.
 fn walk_price<S: Store, M: CostModel>(store: &mut S, words: &mut [u32]) -> u32
-    requires { size (program store.old) ≤ length words.old }
-    ensures answer { result ≡ price_words costing (at (program store.old)) 0 words.old (program store.old).order }
-    ensures words { words.new ≡ stamps_left costing (at (program store.old)) words.old (program store.old).order }
-    ensures after { program store.new ≡ program store.old }
+    requires { size (S.program store.old) ≤ length words.old }
+    ensures answer { result ≡ price_words M.costing (at (S.program store.old)) 0 words.old (S.program store.old).order }
+    ensures words { words.new ≡ stamps_left M.costing (at (S.program store.old)) words.old (S.program store.old).order }
+    ensures after { S.program store.new ≡ S.program store.old }
 {
     let mut total = 0;
     let mut cursor = Cursor::start(store);
@@ -50,10 +50,10 @@ pub fn price_again<S: Store, M: CostModel>(
     store: &mut S,
     words: &mut [u32],
 ) -> Result<u32, RunFault>
-    ensures answer { result ≡ counted (scratch_fault (program store.old) (length words.old)) (price_words costing (at (program store.old)) 0 words.old (program store.old).order) }
-    ensures words { words.new ≡ either (scratch_fault (program store.old) (length words.old)) (stamps_left costing (at (program store.old)) words.old (program store.old).order) words.old }
-    ensures formed { WellFormed (program store.old) → size (program store.old) ≤ length words.old → result ≡ Ok (model-price costing (program store.old)) }
-    ensures after { program store.new ≡ program store.old }
+    ensures answer { result ≡ counted (scratch_fault (S.program store.old) (length words.old)) (price_words M.costing (at (S.program store.old)) 0 words.old (S.program store.old).order) }
+    ensures words { words.new ≡ either (scratch_fault (S.program store.old) (length words.old)) (stamps_left M.costing (at (S.program store.old)) words.old (S.program store.old).order) words.old }
+    ensures formed { WellFormed (S.program store.old) → size (S.program store.old) ≤ length words.old → result ≡ Ok (model-price M.costing (S.program store.old)) }
+    ensures after { S.program store.new ≡ S.program store.old }
 {
     let size = store.size();
     if words.len() < size as usize {
@@ -65,10 +65,10 @@ pub fn price_again<S: Store, M: CostModel>(
 // The price of the program in a store. It is refused if there are fewer scratch words than numbers, or if the program is
 // not well formed.
 pub fn price<S: Store, M: CostModel>(store: &mut S, scratch: &mut [u32]) -> Result<u32, RunFault>
-    ensures answer { result ≡ price_answer costing (program store.old) (length scratch.old) }
-    ensures after { program store.new ≡ program store.old }
+    ensures answer { result ≡ price_answer M.costing (S.program store.old) (length scratch.old) }
+    ensures after { S.program store.new ≡ S.program store.old }
     ensures scratch { scratch.new ≡ zeros (length scratch.old) }
-    ensures form { FormLaw (program store.old) }
+    ensures form { FormLaw (S.program store.old) }
 {
     let guard = Scratch(scratch);
     check_form(store, guard.0)?;

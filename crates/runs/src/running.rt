@@ -23,8 +23,8 @@ fn is_out(what: Record) -> bool
 
 // How many outs are placed.
 fn count_outs<S: Store>(store: &mut S) -> u32
-    ensures answer { result ≡ outs (program store.old) }
-    ensures after { program store.new ≡ program store.old }
+    ensures answer { result ≡ outs (S.program store.old) }
+    ensures after { S.program store.new ≡ S.program store.old }
 {
     let mut count = 0;
     let mut cursor = Cursor::start(store);
@@ -62,10 +62,10 @@ fn send(what: Record, value: u32, output: &mut [u32], pairs: usize) -> usize
 
 // The run over words that hold anything; the output memory has two words for each out.
 fn walk_run<S: Store>(store: &mut S, inputs: &[u32], words: &mut [u32], output: &mut [u32])
-    requires words { size (program store.old) ≤ length words.old }
-    requires output { 2 * length (run_words (at (program store.old)) inputs.now words.old (program store.old).order) ≤ length output.old }
-    ensures output { output.new ≡ put_pairs output.old 0 (run_words (at (program store.old)) inputs.now words.old (program store.old).order) }
-    ensures after { program store.new ≡ program store.old }
+    requires words { size (S.program store.old) ≤ length words.old }
+    requires output { 2 * length (run_words (at (S.program store.old)) inputs.now words.old (S.program store.old).order) ≤ length output.old }
+    ensures output { output.new ≡ put_pairs output.old 0 (run_words (at (S.program store.old)) inputs.now words.old (S.program store.old).order) }
+    ensures after { S.program store.new ≡ S.program store.old }
 {
     let mut pairs = 0;
     let mut cursor = Cursor::start(store);
@@ -85,12 +85,12 @@ pub fn run<S: Store>(
     scratch: &mut [u32],
     output: &mut [u32],
 ) -> Result<u32, RunFault>
-    ensures answer { result ≡ run_answer (program store.old) (length scratch.old) inputs.now (length output.old) }
-    ensures output { output.new ≡ after_run (program store.old) (length scratch.old) inputs.now output.old }
-    ensures after { program store.new ≡ program store.old }
+    ensures answer { result ≡ run_answer (S.program store.old) (length scratch.old) inputs.now (length output.old) }
+    ensures output { output.new ≡ after_run (S.program store.old) (length scratch.old) inputs.now output.old }
+    ensures after { S.program store.new ≡ S.program store.old }
     ensures scratch { scratch.new ≡ zeros (length scratch.old) }
-    ensures form { FormLaw (program store.old) }
-    ensures meaning { RunLaw (program store.old) inputs.now }
+    ensures form { FormLaw (S.program store.old) }
+    ensures meaning { RunLaw (S.program store.old) inputs.now }
 {
     let guard = Scratch(scratch);
     check_form(store, guard.0)?;

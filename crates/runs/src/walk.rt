@@ -15,18 +15,18 @@ pub(crate) struct Cursor {
 impl Cursor {
     // Before the first instruction.
     pub(crate) fn start<S: Store>(store: &mut S) -> Cursor
-        ensures whole { from result.at (program store.old).order ≡ (program store.old).order }
-        ensures stands { Stands result.at (program store.old).order }
-        ensures after { program store.new ≡ program store.old }
+        ensures whole { from result.at (S.program store.old).order ≡ (S.program store.old).order }
+        ensures stands { Stands result.at (S.program store.old).order }
+        ensures after { S.program store.new ≡ S.program store.old }
     {
         Cursor { at: store.first() }
     }
 
     // The next instruction with its number.
     pub(crate) fn next<S: Store>(&mut self, store: &mut S) -> Option<(u32, Record)>
-        requires { Stands self.old.at (program store.old).order }
-        ensures moved { Moved (program store.old) self.old.at self.new.at result }
-        ensures after { program store.new ≡ program store.old }
+        requires { Stands self.old.at (S.program store.old).order }
+        ensures moved { Moved (S.program store.old) self.old.at self.new.at result }
+        ensures after { S.program store.new ≡ S.program store.old }
     {
         let Some(n) = self.at else {
             return None;

@@ -81,7 +81,7 @@ fn spent(answer: Result<(), (SessionFault, Token)>) -> Reply
 impl<S: Store, M> Session<S, M> {
     // Makes one call.
     pub fn call(&mut self, call: Call) -> Reply
-        ensures { Called program (act_step (act_of call)) self.old self.new (answer_of result) }
+        ensures { Called S.program (act_step (act_of call)) self.old self.new (answer_of result) }
     {
         match call {
             Call::Make(n, what) => done(self.make(n, what)),

@@ -11,8 +11,8 @@ use session::session::Session;
 
 // Takes a number out of the program: it is detached and erased.
 fn take_out<S: Store, M>(session: &mut Session<S, M>, n: u32)
-    requires { Removable n (meaning program session.old) }
-    ensures after { meaning program session.new ≡ paid (meaning program session.old) (take_out (program session.old.store) n) 2 }
+    requires { Removable n (meaning S.program session.old) }
+    ensures after { meaning S.program session.new ≡ paid (meaning S.program session.old) (take_out (S.program session.old.store) n) 2 }
     ensures grown { Grown session.old.journal session.new.journal }
 {
     let _ = session.detach(n);
@@ -21,8 +21,8 @@ fn take_out<S: Store, M>(session: &mut Session<S, M>, n: u32)
 
 // Makes the change of a rule at a number.
 pub(crate) fn make_change<S: Store, M>(session: &mut Session<S, M>, n: u32, change: Change)
-    requires { Makeable n (change_of change) (meaning program session.old) }
-    ensures after { meaning program session.new ≡ paid (meaning program session.old) (apply (program session.old.store) n (change_of change)) (cost (program session.old.store) n (change_of change)) }
+    requires { Makeable n (change_of change) (meaning S.program session.old) }
+    ensures after { meaning S.program session.new ≡ paid (meaning S.program session.old) (apply (S.program session.old.store) n (change_of change)) (cost (S.program session.old.store) n (change_of change)) }
     ensures grown { Grown session.old.journal session.new.journal }
 {
     match change {

@@ -17,7 +17,7 @@ use session::session::Session;
 
 // The records that a trial at a placed number needs.
 pub(crate) fn need_at<S: Store, M>(session: &mut Session<S, M>, n: u32) -> Result<u32, StoreFault>
-    ensures { Read program (λ p. answered (placed_fault p n) (need-of p n)) session.old session.new result }
+    ensures { Read S.program (λ p. answered (placed_fault p n) (need-of p n)) session.old session.new result }
 {
     session.next(n)?;
     let count = session.count_uses(n)?;
@@ -26,7 +26,7 @@ pub(crate) fn need_at<S: Store, M>(session: &mut Session<S, M>, n: u32) -> Resul
 
 // There are at most so many saves.
 fn check_depth<S: Store, M>(session: &mut Session<S, M>, most: u32) -> Result<(), SimplifyFault>
-    ensures { Told program (λ s. checked (depth_fault most s)) session.old session.new result }
+    ensures { Told S.program (λ s. checked (depth_fault most s)) session.old session.new result }
 {
     let depth = session.depth();
     if most < depth {
@@ -40,7 +40,7 @@ pub(crate) fn check_records<S: Store, M>(
     session: &mut Session<S, M>,
     need: u32,
 ) -> Result<(), SimplifyFault>
-    ensures { Told program (λ s. checked (records_fault need s)) session.old session.new result }
+    ensures { Told S.program (λ s. checked (records_fault need s)) session.old session.new result }
 {
     if session.records_left() < need {
         return Err(SimplifyFault::Session(SessionFault::TooFewRecords(need)));
@@ -54,7 +54,7 @@ pub(crate) fn check_trial<S: Store, M: CostModel>(
     n: u32,
     words: &mut [u32],
 ) -> Result<u32, SimplifyFault>
-    ensures { Told program (λ s. priced (trial_fault n (length words.old) s) (price-of costing s.program)) session.old session.new result }
+    ensures { Told S.program (λ s. priced (trial_fault n (length words.old) s) (price-of M.costing s.program)) session.old session.new result }
 {
     let need = need_at(session, n)?;
     check_depth(session, 7)?;
@@ -67,7 +67,7 @@ pub(crate) fn check_pass<S: Store, M: CostModel>(
     session: &mut Session<S, M>,
     words: &mut [u32],
 ) -> Result<u32, SimplifyFault>
-    ensures { Told program (λ s. priced (pass_fault (length words.old) s) (price-of costing s.program)) session.old session.new result }
+    ensures { Told S.program (λ s. priced (pass_fault (length words.old) s) (price-of M.costing s.program)) session.old session.new result }
 {
     check_depth(session, 6)?;
     Ok(session.price(words)?)

@@ -25,8 +25,8 @@ pub(crate) struct Round {
 
 // The number before a placed one.
 fn before<S: Store, M>(session: &mut Session<S, M>, n: u32) -> Option<u32>
-    ensures answer { In n (program session.old.store).order → result ≡ previous_of (program session.old.store) n }
-    ensures same { program session.new.store ≡ program session.old.store }
+    ensures answer { In n (S.program session.old.store).order → result ≡ previous_of (S.program session.old.store) n }
+    ensures same { S.program session.new.store ≡ S.program session.old.store }
     ensures journal { session.new.journal ≡ session.old.journal }
 {
     match session.previous(n) {
@@ -50,9 +50,9 @@ fn try_at<S: Store, M: CostModel>(
     price: u32,
     words: &mut [u32],
 ) -> Result<Tried, SimplifyFault>
-    requires going { Going costing (length words.old) price (meaning program session.old) }
-    requires placed { In n (program session.old.store).order }
-    ensures tried { TriedOrShort costing n (meaning program session.old) (meaning program session.new) (result_map_both (λ t. (t.rule, t.price)) (λ f. f) result) }
+    requires going { Going M.costing (length words.old) price (meaning S.program session.old) }
+    requires placed { In n (S.program session.old.store).order }
+    ensures tried { TriedOrShort M.costing n (meaning S.program session.old) (meaning S.program session.new) (result_map_both (λ t. (t.rule, t.price)) (λ f. f) result) }
     ensures grown { Grown session.old.journal session.new.journal }
 {
     let need = need_at(session, n)?;
@@ -66,9 +66,9 @@ fn make_round<S: Store, M: CostModel>(
     price: u32,
     words: &mut [u32],
 ) -> Result<Round, SimplifyFault>
-    requires { Going costing (length words.old) price (meaning program session.old) }
-    ensures came { Came (spared_round costing (program session.old.store) (meaning program session.old).left (program session.old.store).order) (meaning program session.old) (meaning program session.new) (result_map_both kept_in (λ f. f) result) }
-    ensures priced { Priced costing (length words.old) (meaning program session.new) result }
+    requires { Going M.costing (length words.old) price (meaning S.program session.old) }
+    ensures came { Came (spared_round M.costing (S.program session.old.store) (meaning S.program session.old).left (S.program session.old.store).order) (meaning S.program session.old) (meaning S.program session.new) (result_map_both kept_in (λ f. f) result) }
+    ensures priced { Priced M.costing (length words.old) (meaning S.program session.new) result }
     ensures grown { Grown session.old.journal session.new.journal }
 {
     let mut done = Round { kept: 0, price };
@@ -90,8 +90,8 @@ pub(crate) fn make_rounds<S: Store, M: CostModel>(
     price: u32,
     words: &mut [u32],
 ) -> Result<u32, SimplifyFault>
-    requires { Going costing (length words.old) price (meaning program session.old) }
-    ensures came { Came (rounds-of costing (suc (meaning program session.old).left) (program session.old.store) (meaning program session.old).left) (meaning program session.old) (meaning program session.new) result }
+    requires { Going M.costing (length words.old) price (meaning S.program session.old) }
+    ensures came { Came (rounds-of M.costing (suc (meaning S.program session.old).left) (S.program session.old.store) (meaning S.program session.old).left) (meaning S.program session.old) (meaning S.program session.new) result }
     ensures grown { Grown session.old.journal session.new.journal }
 {
     let mut total = 0;

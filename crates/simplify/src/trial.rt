@@ -20,8 +20,8 @@ pub fn trial<S: Store, M: CostModel>(
     n: u32,
     scratch: &mut [u32],
 ) -> Result<u32, SimplifyFault>
-    ensures step { Stepped program (trial_step costing n (length scratch.old)) session.old session.new result }
-    ensures law { TrialSaid costing (program session.old.store) n result (program session.new.store) }
+    ensures step { Stepped S.program (trial_step M.costing n (length scratch.old)) session.old session.new result }
+    ensures law { TrialSaid M.costing (S.program session.old.store) n result (S.program session.new.store) }
     ensures scratch { scratch.new ≡ zeros (length scratch.old) }
 {
     let guard = Scratch(scratch);

@@ -26,8 +26,8 @@ fn lower_price<S: Store, M: CostModel>(
     old: u32,
     words: &mut [u32],
 ) -> Option<u32>
-    requires { (Sound (program session.old.store)) × (size (program session.old.store) ≤ length words.old) }
-    ensures { Read program (λ p. (if nat_lt (price-of costing p) old then Some (price-of costing p) else None)) session.old session.new result }
+    requires { (Sound (S.program session.old.store)) × (size (S.program session.old.store) ≤ length words.old) }
+    ensures { Read S.program (λ p. (if nat_lt (price-of M.costing p) old then Some (price-of M.costing p) else None)) session.old session.new result }
 {
     match session.price_again(words) {
         Ok(price) if price < old => Some(price),
@@ -43,9 +43,9 @@ fn try_rule<S: Store, M: CostModel>(
     old: u32,
     words: &mut [u32],
 ) -> Option<u32>
-    requires ready { Ready costing n (length words.old) old (meaning program session.old) }
+    requires ready { Ready M.costing n (length words.old) old (meaning S.program session.old) }
     requires numbered { (1 ≤ rule) × (rule ≤ 6) }
-    ensures tried { Attempted costing n (rule_at (program session.old.store) rule n) (meaning program session.old) (meaning program session.new) result }
+    ensures tried { Attempted M.costing n (rule_at (S.program session.old.store) rule n) (meaning S.program session.old) (meaning S.program session.new) result }
     ensures grown { Grown session.old.journal session.new.journal }
 {
     let change = session.change_at(rule, n);
@@ -72,8 +72,8 @@ pub(crate) fn try_rules<S: Store, M: CostModel>(
     old: u32,
     words: &mut [u32],
 ) -> Tried
-    requires { Ready costing n (length words.old) old (meaning program session.old) }
-    ensures tried { Trial-done costing n (meaning program session.old) (meaning program session.new) result.rule result.price }
+    requires { Ready M.costing n (length words.old) old (meaning S.program session.old) }
+    ensures tried { Trial-done M.costing n (meaning S.program session.old) (meaning S.program session.new) result.rule result.price }
     ensures grown { Grown session.old.journal session.new.journal }
 {
     for rule in 1..7 {

@@ -1,1 +1,2 @@
 // Lines as requests, and requests as lines.
+#![tactic(auto)]

@@ -1,4 +1,6 @@
 // A walk through the bench: an irrigation script is made, placed, listed, priced and run, with one refusal on the way.
+#![tactic(auto)]
+
 mod saves;
 mod script;
 mod show;

@@ -18,7 +18,7 @@ use program::store::Store;
 impl<S: Store, M> Session<S, M> {
     // A session with no save, over a store and whatever program it has.
     pub fn new(store: S, cost: M) -> Session<S, M>
-        ensures { meaning program result ≡ fresh (program store) }
+        ensures { meaning S.program result ≡ fresh (S.program store) }
     {
         Session {
             store,
@@ -29,7 +29,7 @@ impl<S: Store, M> Session<S, M> {
 
     // Gives the command to the store and notes what takes it back; with no record left, takes it back at once.
     pub(crate) fn edit(&mut self, command: Command) -> Result<(), SessionFault>
-        ensures { Stepped program (edit_step (edit_of command)) self.old self.new result }
+        ensures { Stepped S.program (edit_step (edit_of command)) self.old self.new result }
     {
         let back = opposite(&mut self.store, command);
         apply(&mut self.store, command)?;
@@ -42,43 +42,43 @@ impl<S: Store, M> Session<S, M> {
 
     // Gives a free number a record; it is then loose.
     pub fn make(&mut self, n: u32, what: Record) -> Result<(), SessionFault>
-        ensures { Stepped program (edit_step (make n (plain what))) self.old self.new result }
+        ensures { Stepped S.program (edit_step (make n (plain what))) self.old self.new result }
     {
         self.edit(Command::Make(n, what))
     }
 
     // Puts a loose number before a placed anchor, or at the end.
     pub fn place(&mut self, n: u32, anchor: Option<u32>) -> Result<(), SessionFault>
-        ensures { Stepped program (edit_step (link n anchor)) self.old self.new result }
+        ensures { Stepped S.program (edit_step (link n anchor)) self.old self.new result }
     {
         self.edit(Command::Link(n, anchor))
     }
 
     // Makes a placed number loose.
     pub fn detach(&mut self, n: u32) -> Result<(), SessionFault>
-        ensures { Stepped program (edit_step (unlink n)) self.old self.new result }
+        ensures { Stepped S.program (edit_step (unlink n)) self.old self.new result }
     {
         self.edit(Command::Unlink(n))
     }
 
     // Makes a loose, unused number free.
     pub fn erase(&mut self, n: u32) -> Result<(), SessionFault>
-        ensures { Stepped program (edit_step (unmake n)) self.old self.new result }
+        ensures { Stepped S.program (edit_step (unmake n)) self.old self.new result }
     {
         self.edit(Command::Unmake(n))
     }
 
     // Gives a number that is not free another record.
     pub fn rewrite(&mut self, n: u32, what: Record) -> Result<(), SessionFault>
-        ensures { Stepped program (edit_step (rewrite n (plain what))) self.old self.new result }
+        ensures { Stepped S.program (edit_step (rewrite n (plain what))) self.old self.new result }
     {
         self.edit(Command::Rewrite(n, what))
     }
 
     // Puts m for n at each use of n, the least first.
     fn swap_uses(&mut self, n: u32, m: u32)
-        requires { Ready n m (meaning program self.old) }
-        ensures { meaning program self.new ≡ swept n m (meaning program self.old) }
+        requires { Ready n m (meaning S.program self.old) }
+        ensures { meaning S.program self.new ≡ swept n m (meaning S.program self.old) }
     {
         while let Some(found) = first_use(&mut self.store, n) {
             let (user, position) = found;
@@ -89,7 +89,7 @@ impl<S: Store, M> Session<S, M> {
 
     // Puts m for n at every use of n.
     pub fn replace(&mut self, n: u32, m: u32) -> Result<(), SessionFault>
-        ensures { Stepped program (replace_step n m) self.old self.new result }
+        ensures { Stepped S.program (replace_step n m) self.old self.new result }
     {
         if let Some(fault) = replace_refused(&mut self.store, n, m) {
             return Err(SessionFault::Store(fault));

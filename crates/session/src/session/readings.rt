@@ -14,53 +14,53 @@ use program::store::Store;
 impl<S: Store, M> Session<S, M> {
     // How many numbers there are, free ones too.
     pub fn size(&mut self) -> u32
-        ensures { Read program size self.old self.new result }
+        ensures { Read S.program size self.old self.new result }
     {
         self.store.size()
     }
 
     pub fn state(&mut self, n: u32) -> Result<State, StoreFault>
-        ensures { Read program (λ p. state_answer p n) self.old self.new result }
+        ensures { Read S.program (λ p. state_answer p n) self.old self.new result }
     {
         self.store.state(n)
     }
 
     // The record of a number that is not free.
     pub fn read(&mut self, n: u32) -> Result<Record, StoreFault>
-        ensures { Read program (λ p. read_answer p n) self.old self.new (result_map_both plain (λ f. f) result) }
+        ensures { Read S.program (λ p. read_answer p n) self.old self.new (result_map_both plain (λ f. f) result) }
     {
         self.store.read(n)
     }
 
     // The first and the last number of the order.
     pub fn first(&mut self) -> Option<u32>
-        ensures { Read program first_of self.old self.new result }
+        ensures { Read S.program first_of self.old self.new result }
     {
         self.store.first()
     }
 
     pub fn last(&mut self) -> Option<u32>
-        ensures { Read program last_of self.old self.new result }
+        ensures { Read S.program last_of self.old self.new result }
     {
         self.store.last()
     }
 
     // The neighbours of a placed number in the order.
     pub fn next(&mut self, n: u32) -> Result<Option<u32>, StoreFault>
-        ensures { Read program (λ p. next_answer p n) self.old self.new result }
+        ensures { Read S.program (λ p. next_answer p n) self.old self.new result }
     {
         self.store.next(n)
     }
 
     pub fn previous(&mut self, n: u32) -> Result<Option<u32>, StoreFault>
-        ensures { Read program (λ p. previous_answer p n) self.old self.new result }
+        ensures { Read S.program (λ p. previous_answer p n) self.old self.new result }
     {
         self.store.previous(n)
     }
 
     // How many uses a number that is not free has.
     pub fn count_uses(&mut self, n: u32) -> Result<u32, StoreFault>
-        ensures { Read program (λ p. count_answer p n) self.old self.new result }
+        ensures { Read S.program (λ p. count_answer p n) self.old self.new result }
     {
         self.store.count_uses(n)
     }
@@ -71,7 +71,7 @@ impl<S: Store, M> Session<S, M> {
         n: u32,
         after: Option<(u32, u8)>,
     ) -> Result<Option<(u32, u8)>, StoreFault>
-        ensures { Read program (λ p. use_answer p n after) self.old self.new result }
+        ensures { Read S.program (λ p. use_answer p n after) self.old self.new result }
     {
         self.store.next_use(n, after)
     }

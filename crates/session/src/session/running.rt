@@ -13,9 +13,9 @@ use runs::fault::RunFault;
 impl<S: Store, M: CostModel> Session<S, M> {
     // The price under the session's cost model.
     pub fn price(&mut self, scratch: &mut [u32]) -> Result<u32, RunFault>
-        ensures answer { Read program (λ p. price_answer costing p (length scratch.old)) self.old self.new result }
+        ensures answer { Read S.program (λ p. price_answer M.costing p (length scratch.old)) self.old self.new result }
         ensures scratch { scratch.new ≡ zeros (length scratch.old) }
-        ensures form { FormLaw (program self.old.store) }
+        ensures form { FormLaw (S.program self.old.store) }
     {
         runs::pricing::price::<S, M>(&mut self.store, scratch)
     }
@@ -27,10 +27,10 @@ impl<S: Store, M: CostModel> Session<S, M> {
         scratch: &mut [u32],
         output: &mut [u32],
     ) -> Result<u32, RunFault>
-        ensures answer { Read program (λ p. run_answer p (length scratch.old) inputs.now (length output.old)) self.old self.new result }
-        ensures output { output.new ≡ after_run (program self.old.store) (length scratch.old) inputs.now output.old }
+        ensures answer { Read S.program (λ p. run_answer p (length scratch.old) inputs.now (length output.old)) self.old self.new result }
+        ensures output { output.new ≡ after_run (S.program self.old.store) (length scratch.old) inputs.now output.old }
         ensures scratch { scratch.new ≡ zeros (length scratch.old) }
-        ensures meaning { RunLaw (program self.old.store) inputs.now }
+        ensures meaning { RunLaw (S.program self.old.store) inputs.now }
     {
         runs::running::run(&mut self.store, inputs, scratch, output)
     }

@@ -14,7 +14,7 @@ use program::store::Store;
 
 impl<S: Store, M> Session<S, M> {
     fn open(&mut self, held: bool) -> Result<u32, SessionFault>
-        ensures { Stepped program (open_step held) self.old self.new result }
+        ensures { Stepped S.program (open_step held) self.old self.new result }
     {
         let depth = self.journal.depth();
         if self.journal.open(held) {
@@ -26,7 +26,7 @@ impl<S: Store, M> Session<S, M> {
 
     // Opens a save and answers the new depth.
     pub fn save(&mut self) -> Result<u32, SessionFault>
-        ensures { Stepped program (open_step false) self.old self.new result }
+        ensures { Stepped S.program (open_step false) self.old self.new result }
     {
         self.open(false)
     }
@@ -49,7 +49,7 @@ impl<S: Store, M> Session<S, M> {
 
     // Takes back every edit since the newest save, the newest first.
     fn rewind(&mut self)
-        ensures { Rewound program self.old self.new }
+        ensures { Rewound S.program self.old self.new }
     {
         while let Some(record) = self.journal.pop() {
             let _ = apply(&mut self.store, record);
@@ -57,7 +57,7 @@ impl<S: Store, M> Session<S, M> {
     }
 
     fn close_kept(&mut self, depth: u32, held: bool) -> Result<(), SessionFault>
-        ensures { Stepped program (accept_step depth held) self.old self.new result }
+        ensures { Stepped S.program (accept_step depth held) self.old self.new result }
     {
         self.closing(depth, held)?;
         self.journal.close();
@@ -65,7 +65,7 @@ impl<S: Store, M> Session<S, M> {
     }
 
     fn close_undone(&mut self, depth: u32, held: bool) -> Result<(), SessionFault>
-        ensures { Stepped program (revert_step depth held) self.old self.new result }
+        ensures { Stepped S.program (revert_step depth held) self.old self.new result }
     {
         self.closing(depth, held)?;
         self.rewind();
@@ -75,21 +75,21 @@ impl<S: Store, M> Session<S, M> {
 
     // Removes the newest save, which is open and at this depth.
     pub fn accept(&mut self, depth: u32) -> Result<(), SessionFault>
-        ensures { Stepped program (accept_step depth false) self.old self.new result }
+        ensures { Stepped S.program (accept_step depth false) self.old self.new result }
     {
         self.close_kept(depth, false)
     }
 
     // Removes the newest save, which is open and at this depth, and brings back what it keeps.
     pub fn revert(&mut self, depth: u32) -> Result<(), SessionFault>
-        ensures { Stepped program (revert_step depth false) self.old self.new result }
+        ensures { Stepped S.program (revert_step depth false) self.old self.new result }
     {
         self.close_undone(depth, false)
     }
 
     // Opens a held save and answers its token.
     pub fn hold(&mut self) -> Result<Token, SessionFault>
-        ensures { Stepped program (answering with_token (open_step true)) self.old self.new result }
+        ensures { Stepped S.program (answering with_token (open_step true)) self.old self.new result }
     {
         let depth = self.open(true)?;
         Ok(Token { depth })
@@ -97,7 +97,7 @@ impl<S: Store, M> Session<S, M> {
 
     // Removes the newest save, which is held and at the token's depth; a refusal hands the token back.
     pub fn accept_held(&mut self, token: Token) -> Result<(), (SessionFault, Token)>
-        ensures { Stepped program (answering (handed_back token) (accept_step token.depth true)) self.old self.new result }
+        ensures { Stepped S.program (answering (handed_back token) (accept_step token.depth true)) self.old self.new result }
     {
         let Token { depth } = token;
         match self.close_kept(depth, true) {
@@ -108,7 +108,7 @@ impl<S: Store, M> Session<S, M> {
 
     // The same, and brings back what the save keeps.
     pub fn revert_held(&mut self, token: Token) -> Result<(), (SessionFault, Token)>
-        ensures { Stepped program (answering (handed_back token) (revert_step token.depth true)) self.old self.new result }
+        ensures { Stepped S.program (answering (handed_back token) (revert_step token.depth true)) self.old self.new result }
     {
         let Token { depth } = token;
         match self.close_undone(depth, true) {
