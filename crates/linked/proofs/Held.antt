@@ -1,5 +1,5 @@
 -- What the type of a linked store says of its cells, and what its ghost fields ask of the cells put back.
-use Rattle.std.proofs.Common.{◌≡◌, ℕ, ◌<◌, ◌≤◌, true, List, length, Some, None, sym, refl, ap, subst, arith, Bor}
+use Rattle.std.proofs.Common.{◌≡◌, ℕ, ◌<◌, ◌≤◌, true, List, length, Some, None, sym, refl, ap, subst, arith, MutBor}
 use Rattle.std.proofs.lemmas.List.{length-map}
 use Rattle.program.specs.Programs.{Program, Cell, cell, Busy, held, Operands}
 use Rattle.program.specs.Proper.{Proper, Tied}
@@ -17,11 +17,18 @@ use Rattle.linked.proofs.Ordering.{ranged_reads}
 
 -- the ghost fields, in their order
 abbrev Fields : List LinkedCell → ℕ → ℕ → Type 0
-Fields xs f l = (length xs ≤ 1024) × (Forward xs f × (Backward xs f l × (Marked xs f × (Strung xs × (Tied (linked_program xs f) × Unit {0})))))
+Fields xs f l = record {few : length xs ≤ 1024; forward : Forward xs f; backward : Backward xs f l; marked : Marked xs f; strung : Strung xs; tied : Tied (linked_program xs f)}
 
 pub fields : (xs : List LinkedCell) (f l : ℕ) → Sound xs f l → (p : Program) → linked_program xs f ≡ p → Proper p → Fields xs f l
 fields xs f l s p e t =
-    (s.woven.few, (forward_of xs f l s.linked, (backward_of xs f l s.linked, (s.linked.marks, (strung_of xs s.woven, (tied_test (linked_program xs f) (subst Proper (sym e) t), tt))))))
+    record {
+      few = s.woven.few;
+      forward = forward_of xs f l s.linked;
+      backward = backward_of xs f l s.linked;
+      marked = s.linked.marks;
+      strung = strung_of xs s.woven;
+      tied = tied_test (linked_program xs f) (subst Proper (sym e) t);
+    }
 
 -- operands that are not free are numbers of the store
 tied_inside : (xs : List LinkedCell) (f : ℕ) → Tied (linked_program xs f) → Ranged xs
@@ -45,7 +52,7 @@ store_sound s = record {
 }
 
 -- of the cells that were taken out of a store
-module _ (s : Linked) (r : Bor (List LinkedCell)) (taken : r ≡ s.cells) where
+module _ (s : Linked) (r : MutBor (List LinkedCell)) (taken : r ≡ s.cells) where
   pub taken_sound : Sound r.now s.ends.first s.ends.last
   taken_sound = subst (λ x. Sound x.now s.ends.first s.ends.last) (sym taken) (store_sound s)
 
@@ -58,4 +65,4 @@ module _ (s : Linked) (r : Bor (List LinkedCell)) (taken : r ≡ s.cells) where
       (subst Proper (sym taken_program) (proper_linked s.cells.now s.ends.first s.ends.last s.few s.forward s.backward s.marked s.tied))
 
   pub taken_fields : Fields r.now s.ends.first s.ends.last
-  taken_fields = subst (λ x. Fields x.now s.ends.first s.ends.last) (sym taken) (s.few, (s.forward, (s.backward, (s.marked, (s.strung, (s.tied, tt))))))
+  taken_fields = subst (λ x. Fields x.now s.ends.first s.ends.last) (sym taken) (record { few = s.few; forward = s.forward; backward = s.backward; marked = s.marked; strung = s.strung; tied = s.tied })

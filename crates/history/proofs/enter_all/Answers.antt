@@ -17,13 +17,13 @@ returns g c =
     let acts = map act_of calls in
     let all : take (length calls) calls ≡ calls = take_all (length calls) calls (omega arith) in
     let start = c.new-session.ensures in
-    let got = c.answer-all.ensures.answered ∙ ap (λ (l : List Call). answers (map act_of l) (meaning program c.new-session.result)) all ∙ ap (answers acts) start in
-    let led = c.answer-all.ensures.led ∙ ap (λ (l : List Call). final (map act_of l) (meaning program c.new-session.result)) all ∙ ap (final acts) start in
+    let got = c.answer_all.ensures.answered ∙ ap (λ (l : List Call). answers (map act_of l) (meaning program c.new-session.result)) all ∙ ap (answers acts) start in
+    let led = c.answer_all.ensures.led ∙ ap (λ (l : List Call). final (map act_of l) (meaning program c.new-session.result)) all ∙ ap (final acts) start in
     let built = ap (λ (s : Copying). s.program) led in (
       got,
       led,
-      c.answer-all.ensures.behind,
-      subst (λ (rs : List Answer). Repeats p acts rs (program c.answer-all.new.session.store)) (sym got)
+      c.answer_all.ensures.behind,
+      subst (λ (rs : List Answer). Repeats p acts rs (program c.answer_all.new.session.store)) (sym got)
           (subst (λ q. Repeats p acts (answers acts (fresh p)) q) (sym built) (repeats p acts)),
-      uses_read (program c.answer-all.new.session.store) (g.S.Store.proper c.answer-all.new.session.store),
+      uses_read (program c.answer_all.new.session.store) (g.S.Store.proper c.answer_all.new.session.store),
     )

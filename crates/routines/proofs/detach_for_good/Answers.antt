@@ -22,8 +22,8 @@ returns-in-Err g c =
     let u = unheld (meaning g.S.Store.program c.args.session.now) c.in-Err.fault c.in-Err.ensures.answer in
     (c.hold.ensures.after ∙ u.0, u.1)
 
-pub returns-in-Ok-accept-held : goal.returns-in-Ok-accept-held
-returns-in-Ok-accept-held g c =
+pub returns-in-Ok-accept_held : goal.returns-in-Ok-accept_held
+returns-in-Ok-accept_held g c =
     let program = g.S.Store.program in
     let n = c.args.n in
     let s = meaning program c.args.session.now in
@@ -32,15 +32,15 @@ returns-in-Ok-accept-held g c =
     let then = c.detach.ensures.after ∙ ap (λ (x : Copying). (edit_step (unlink n) x).after) c.hold.ensures.after in
     let closed = kept s (unlink n) y c.in-Ok.token.depth (then ∙ ap (λ (x : Copying). (edit_step (unlink n) x).after) h.0) h.1 in
     let is =
-    c.accept-held.ensures.after
+    c.accept_held.ensures.after
     ∙ ap (λ (x : Copying). (accept_step c.in-Ok.token.depth true x).after) then
     ∙ ap (λ d. (accept_step d true (edit_step (unlink n) (open_step true s).after).after).after) h.1 in
-    let saves = ap (λ (x : Copying). x.saves) (c.accept-held.ensures.after ∙ ap (λ x. x.after) closed) in
-    then_back n c.args.other s (meaning program c.accept-held.new.self) (meaning program c.could-detach.new.session) c.in-Ok.token c.could-detach.result
-    is saves c.in-Ok.ensures.answer c.could-detach.ensures
+    let saves = ap (λ (x : Copying). x.saves) (c.accept_held.ensures.after ∙ ap (λ x. x.after) closed) in
+    then_back n c.args.other s (meaning program c.accept_held.new.self) (meaning program c.could_detach.new.session) c.in-Ok.token c.could_detach.result
+    is saves c.in-Ok.ensures.answer c.could_detach.ensures
 
-pub returns-in-Err-accept-held : goal.returns-in-Err-accept-held
-returns-in-Err-accept-held g c =
+pub returns-in-Err-accept_held : goal.returns-in-Err-accept_held
+returns-in-Err-accept_held g c =
     let program = g.S.Store.program in
     let n = c.args.n in
     let s = meaning program c.args.session.now in
@@ -48,6 +48,6 @@ returns-in-Err-accept-held g c =
     let h = held s c.in-Ok.token c.in-Ok.ensures.answer in
     let then = c.detach.ensures.after ∙ ap (λ (x : Copying). (edit_step (unlink n) x).after) (c.hold.ensures.after ∙ h.0) in
     let closed = kept s (unlink n) y c.in-Ok.token.depth then h.1 in
-    let e = c.in-Err-accept-held.ensures.answer ∙ ap (λ x. handed_back c.in-Ok.token x.answer) closed in
+    let e = c.in-Err-accept_held.ensures.answer ∙ ap (λ x. handed_back c.in-Ok.token x.answer) closed in
     let z : ◌≡◌ {A = ℕ} 0 1 = cc in
     omega arith

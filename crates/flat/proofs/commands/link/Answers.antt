@@ -11,7 +11,7 @@ pub returns-in-None : goal.returns-in-None
 returns-in-None c =
     let e = c.in-None.ensures in
     let cells =
-    linked_cells c.args.cells.now c.requires c.args.n c.args.anchor e c.place-for-at.result c.place-for-at.ensures
-    c.open-rank.new.cells c.open-rank.ensures c.cell-at-cell.result c.ranked.result c.cell-at-cell.ensures
+    linked_cells c.args.cells.now c.requires c.args.n c.args.anchor e c.place_for-at.result c.place_for-at.ensures
+    c.open_rank.new.cells c.open_rank.ensures c.cell_at-cell.result c.ranked.result c.cell_at-cell.ensures
     c.ranked.ensures.content c.ranked.ensures.rank
     in record { answer = ap verdict e; after = cells.1; sound = cells.0 }

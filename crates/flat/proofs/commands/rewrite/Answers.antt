@@ -19,7 +19,7 @@ returns-in-None c =
     let x = c.rewritten.result in
     let e = c.in-None.ensures in
     let h = rewrite_within xs n i e in
-    let k = c.rewritten.ensures.rank ∙ ap rank_of c.cell-at-cell.ensures in
+    let k = c.rewritten.ensures.rank ∙ ap rank_of c.cell_at-cell.ensures in
     record {
       answer = ap verdict e;
       after = settled_none (rewrite_fault p n i) _ (put p n (Some i)) p e (program_kept xs n x h k c.requires ∙ ap (put p n) c.rewritten.ensures.content);

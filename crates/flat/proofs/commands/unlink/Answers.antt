@@ -11,7 +11,7 @@ pub returns-in-None : goal.returns-in-None
 returns-in-None c =
     let e = c.in-None.ensures in
     let cells =
-    unlinked_cells c.args.cells.now c.requires c.args.n e c.place-of-at.result c.place-of-at.ensures
-    c.close-rank.new.cells c.close-rank.ensures c.cell-at-cell.result c.unranked.result c.cell-at-cell.ensures
+    unlinked_cells c.args.cells.now c.requires c.args.n e c.place_of-at.result c.place_of-at.ensures
+    c.close_rank.new.cells c.close_rank.ensures c.cell_at-cell.result c.unranked.result c.cell_at-cell.ensures
     c.unranked.ensures.content c.unranked.ensures.rank
     in record { answer = ap verdict e; after = cells.1; sound = cells.0 }

@@ -7,4 +7,4 @@ use Rattle.flat.proofs.faults.placed_fault.Goals as goal
 pub returns : goal.returns
 returns c =
     let p = flat_program c.args.cells.now in
-    at_number p c.args.n c.look.result (λ n. c.placed-fault.result ≡ placed_fault p n) c.look.ensures (c.placed-fault.ensures p)
+    at_number p c.args.n c.look.result (λ n. c.placed_fault.result ≡ placed_fault p n) c.look.ensures (c.placed_fault.ensures p)

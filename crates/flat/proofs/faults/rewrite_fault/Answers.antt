@@ -8,5 +8,5 @@ use Rattle.flat.proofs.faults.rewrite_fault.Goals as goal
 pub returns : goal.returns
 returns c =
     let p = flat_program c.args.cells.now in
-    at_number p c.args.n c.look-known.result (λ n. c.rewrite-fault.result ≡ rewrite_fault p n (plain c.args.what)) c.look-known.ensures
-    (λ h. c.rewrite-fault.ensures p h c.look-a.ensures c.look-b.ensures c.look-c.ensures)
+    at_number p c.args.n c.look-known.result (λ n. c.rewrite_fault.result ≡ rewrite_fault p n (plain c.args.what)) c.look-known.ensures
+    (λ h. c.rewrite_fault.ensures p h c.look-a.ensures c.look-b.ensures c.look-c.ensures)

@@ -11,6 +11,6 @@ returns c =
     let p = flat_program c.args.cells.now in
     let n = c.args.n in
     let known = c.look-known.ensures in
-    let none = unused_least (uses p n) c.is-none-unused.result (sym (ap is_some c.least-use.ensures) ∙ c.is-none-unused.ensures) in
-    at_number p n c.look-known.result (λ m. c.unmake-fault.result ≡ unmake_fault p m) known
-    (λ h. c.unmake-fault.ensures p h (none ∙ ap (λ m. unused (uses p m)) (sym known.0)))
+    let none = unused_least (uses p n) c.is_none-unused.result (sym (ap is_some c.least_use.ensures) ∙ c.is_none-unused.ensures) in
+    at_number p n c.look-known.result (λ m. c.unmake_fault.result ≡ unmake_fault p m) known
+    (λ h. c.unmake_fault.ensures p h (none ∙ ap (λ m. unused (uses p m)) (sym known.0)))

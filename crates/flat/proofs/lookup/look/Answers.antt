@@ -7,4 +7,4 @@ pub returns : goal.returns
 returns c =
     let xs = c.args.cells.now in
     let n = c.args.n in
-    (refl, sym (within_flat xs n), c.state-of.ensures ∙ ap tag c.cell-at-cell.ensures ∙ sym (state_flat xs c.requires n))
+    (refl, sym (within_flat xs n), c.state_of.ensures ∙ ap tag c.cell_at-cell.ensures ∙ sym (state_flat xs c.requires n))

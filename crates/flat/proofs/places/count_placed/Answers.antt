@@ -11,7 +11,7 @@ loop-i-preserved c =
     let h : c.loop-i.i < length c.args.cells.now = omega arith in
     let s = count_step c.args.cells.now c.loop-i.i x h c.index-cells-i.is in
     let b = weight_bound (rank_of x) in
-    let w = c.weight-of-count.ensures ∙ ap weight c.rank-of.ensures in
+    let w = c.weight_of-count.ensures ∙ ap weight c.rank_of.ensures in
     (omega arith, omega arith)
 
 pub returns : goal.returns

@@ -4,14 +4,14 @@ use Rattle.flat.proofs.Loops.{find_here, find_later}
 use Rattle.flat.proofs.Neighbours.{nth_found, nth_missing}
 use Rattle.flat.proofs.places.number_at.Goals as goal
 
-pub returns-then-is-rank : goal.returns-then-is-rank
-returns-then-is-rank c =
+pub returns-then-is_rank : goal.returns-then-is_rank
+returns-then-is_rank c =
     let xs = c.args.cells.now in
     let j = c.args.j in
     let i = c.loop-i.i in
     let h : i < length xs = omega arith in
     let e = find_here j xs i c.index-cells-i.result h c.index-cells-i.is
-    (sym (c.is-rank.ensures ∙ ap (is_rank j) c.rank-of.ensures) ∙ c.if-is-rank.true)
+    (sym (c.is_rank.ensures ∙ ap (is_rank j) c.rank_of.ensures) ∙ c.if-is_rank.true)
     in nth_found xs c.requires j i (omega arith) h
 
 pub loop-i-preserved : goal.loop-i-preserved
@@ -19,7 +19,7 @@ loop-i-preserved c =
     let j = c.args.j in
     let h : c.loop-i.i < length c.args.cells.now = omega arith in
     let e = find_later j c.args.cells.now c.loop-i.i c.index-cells-i.result h c.index-cells-i.is
-    (sym (c.is-rank.ensures ∙ ap (is_rank j) c.rank-of.ensures) ∙ c.if-is-rank.false)
+    (sym (c.is_rank.ensures ∙ ap (is_rank j) c.rank_of.ensures) ∙ c.if-is_rank.false)
     in omega arith
 
 pub returns : goal.returns

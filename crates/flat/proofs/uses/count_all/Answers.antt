@@ -8,7 +8,7 @@ loop-i-preserved c =
     let i = c.loop-i.i in
     let h : i < length xs = omega arith in
     let s = count_step c.args.n xs i c.index-cells-i.result h c.index-cells-i.is in
-    let one = c.count-by-count.ensures.count i in
+    let one = c.count_by-count.ensures.count i in
     (omega arith, omega arith)
 
 pub returns : goal.returns

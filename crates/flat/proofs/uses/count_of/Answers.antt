@@ -12,8 +12,8 @@ returns c = record {
       let n = c.args.n in
       let k = c.operands-count.ensures in
       let e = count_positions n u (plain what) in
-      let x = c.count-at-a.ensures.count u 1 ∙ ap (λ m. length (one_use (ltb 0 m) what.a n (u, 1))) k in
-      let y = c.count-at-b.ensures.count u 2 ∙ ap (λ m. length (one_use (ltb 1 m) what.b n (u, 2))) k in
-      let z = c.count-at-c.ensures.count u 3 ∙ ap (λ m. length (one_use (ltb 2 m) what.c n (u, 3))) k in
+      let x = c.count_at-a.ensures.count u 1 ∙ ap (λ m. length (one_use (ltb 0 m) what.a n (u, 1))) k in
+      let y = c.count_at-b.ensures.count u 2 ∙ ap (λ m. length (one_use (ltb 1 m) what.b n (u, 2))) k in
+      let z = c.count_at-c.ensures.count u 3 ∙ ap (λ m. length (one_use (ltb 2 m) what.c n (u, 3))) k in
       omega arith;
 }

@@ -12,7 +12,7 @@ returns-in-Some c =
 pub loop-i-preserved : goal.loop-i-preserved
 loop-i-preserved c =
     let h : c.loop-i.i < length c.args.cells.now = omega arith in
-    least_step c.args.n c.args.cells.now c.loop-i.i c.index-cells-i.result h c.index-cells-i.is c.args.after None c.in-default.ensures
+    least_step c.args.n c.args.cells.now c.loop-i.i c.index-cells-i.result h c.index-cells-i.is c.args.after None c.in_default.ensures
     ∙ c.loop-i.invariant
 
 pub returns : goal.returns

@@ -6,8 +6,8 @@ use Rattle.linked.specs.LinkedModel.{mark, bodies, linked_program}
 use Rattle.linked.proofs.Ordering.{make_low, make_reads, make_free, linked_kept, program_kept, ranged_set, ranged_reads}
 use Rattle.linked.proofs.commands.make.Goals as goal
 
-pub make-at-requires : goal.make-at-requires
-make-at-requires c =
+pub make_at-requires : goal.make_at-requires
+make_at-requires c =
     let xs = c.args.cells.now in
     let f = c.args.ends.first in
     let n = c.args.n in
@@ -23,7 +23,7 @@ make-at-requires c =
 pub returns-in-None : goal.returns-in-None
 returns-in-None c =
     let xs = c.args.cells.now in
-    let ys = c.make-at.new.cells in
+    let ys = c.make_at.new.cells in
     let f = c.args.ends.first in
     let l = c.args.ends.last in
     let n = c.args.n in
@@ -35,10 +35,10 @@ returns-in-None c =
     let same : mark (Idle what) ≡ mark (get_or (bodies xs) n Vacant) = sym (ap mark (make_free xs f l c.requires.linked n i e)) in
     record {
       answer = sym (ap verdict e);
-      after = program_kept xs ys f l c.requires.linked n (Idle what) h same c.make-at.ensures.bodies (c.make-at.ensures.nexts f) (c.make-at.ensures.prevs l) ∙ sym (ap (λ g. settled g (put P n (Some i)) P) e);
+      after = program_kept xs ys f l c.requires.linked n (Idle what) h same c.make_at.ensures.bodies (c.make_at.ensures.nexts f) (c.make_at.ensures.prevs l) ∙ sym (ap (λ g. settled g (put P n (Some i)) P) e);
       sound = record {
-        linked = linked_kept xs ys f l c.requires.linked n (Idle what) h same c.make-at.ensures.bodies (c.make-at.ensures.nexts f) (c.make-at.ensures.prevs l);
-        woven = c.make-at.ensures.woven;
-        inside = ranged_set xs ys n (Idle what) h c.make-at.ensures.bodies (ranged_reads (length xs) i (make_reads xs f n i e)) c.requires.inside;
+        linked = linked_kept xs ys f l c.requires.linked n (Idle what) h same c.make_at.ensures.bodies (c.make_at.ensures.nexts f) (c.make_at.ensures.prevs l);
+        woven = c.make_at.ensures.woven;
+        inside = ranged_set xs ys n (Idle what) h c.make_at.ensures.bodies (ranged_reads (length xs) i (make_reads xs f n i e)) c.requires.inside;
       };
     }

@@ -8,8 +8,8 @@ use Rattle.linked.proofs.commands.rewrite.Goals as goal
 pub unreachable-requires : goal.unreachable-requires
 unreachable-requires c = absurd (rewrite_held c.args.cells.now c.args.ends.first c.args.ends.last c.requires.linked c.args.n (plain c.args.what) (sym c.in-None.ensures) (sym c.in-Vacant.ensures))
 
-pub rewrite-known-requires : goal.rewrite-known-requires
-rewrite-known-requires c =
+pub rewrite_known-requires : goal.rewrite_known-requires
+rewrite_known-requires c =
     let xs = c.args.cells.now in
     let f = c.args.ends.first in
     let e = sym c.in-None.ensures in
@@ -27,12 +27,12 @@ returns-in-Idle c =
     let e = sym c.in-None.ensures in
     record {
       answer = sym (ap verdict e);
-      after = c.rewrite-known.ensures.after ∙ sym (ap (λ g. settled g (put P c.args.n (Some i)) P) e);
-      sound = c.rewrite-known.ensures.sound;
+      after = c.rewrite_known.ensures.after ∙ sym (ap (λ g. settled g (put P c.args.n (Some i)) P) e);
+      sound = c.rewrite_known.ensures.sound;
     }
 
-pub rewrite-known-requires-in-Placed : goal.rewrite-known-requires-in-Placed
-rewrite-known-requires-in-Placed c =
+pub rewrite_known-requires-in-Placed : goal.rewrite_known-requires-in-Placed
+rewrite_known-requires-in-Placed c =
     let xs = c.args.cells.now in
     let f = c.args.ends.first in
     let e = sym c.in-None.ensures in
@@ -50,6 +50,6 @@ returns-in-Placed c =
     let e = sym c.in-None.ensures in
     record {
       answer = sym (ap verdict e);
-      after = c.rewrite-known-in-Placed.ensures.after ∙ sym (ap (λ g. settled g (put P c.args.n (Some i)) P) e);
-      sound = c.rewrite-known-in-Placed.ensures.sound;
+      after = c.rewrite_known-in-Placed.ensures.after ∙ sym (ap (λ g. settled g (put P c.args.n (Some i)) P) e);
+      sound = c.rewrite_known-in-Placed.ensures.sound;
     }

@@ -14,8 +14,8 @@ pub unreachable-requires-in-Placed : goal.unreachable-requires-in-Placed
 unreachable-requires-in-Placed c =
     absurd (not_loose_placed (get_or (bodies c.args.cells.now) c.args.n Vacant) c.in-Placed.field-0 (unmake_loose c.args.cells.now c.args.ends.first c.args.ends.last c.requires.linked c.args.n (sym c.in-None.ensures)) c.in-Placed.ensures)
 
-pub unmake-at-requires : goal.unmake-at-requires
-unmake-at-requires c =
+pub unmake_at-requires : goal.unmake_at-requires
+unmake_at-requires c =
     let xs = c.args.cells.now in
     let old = ap content (sym c.in-Idle.ensures) in
     record {
@@ -28,7 +28,7 @@ unmake-at-requires c =
 pub returns-in-Idle : goal.returns-in-Idle
 returns-in-Idle c =
     let xs = c.args.cells.now in
-    let ys = c.unmake-at.new.cells in
+    let ys = c.unmake_at.new.cells in
     let f = c.args.ends.first in
     let l = c.args.ends.last in
     let n = c.args.n in
@@ -36,15 +36,15 @@ returns-in-Idle c =
     let e = sym c.in-None.ensures in
     let h = unmake_low xs f n e in
     let same : mark Vacant ≡ mark (get_or (bodies xs) n Vacant) = ap mark c.in-Idle.ensures in
-    let eb = c.unmake-at.ensures.bodies in
-    let en = c.unmake-at.ensures.nexts f in
-    let ep = c.unmake-at.ensures.prevs l in
+    let eb = c.unmake_at.ensures.bodies in
+    let en = c.unmake_at.ensures.nexts f in
+    let ep = c.unmake_at.ensures.prevs l in
     record {
       answer = sym (ap verdict e);
       after = program_kept xs ys f l c.requires.linked n Vacant h same eb en ep ∙ sym (ap (λ g. settled g (put P n None) P) e);
       sound = record {
         linked = linked_kept xs ys f l c.requires.linked n Vacant h same eb en ep;
-        woven = c.unmake-at.ensures.woven;
+        woven = c.unmake_at.ensures.woven;
         inside = ranged_set xs ys n Vacant h eb refl c.requires.inside;
       };
     }

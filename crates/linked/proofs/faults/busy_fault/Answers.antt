@@ -7,4 +7,4 @@ use Rattle.linked.proofs.faults.busy_fault.Goals as goal
 pub returns : goal.returns
 returns c =
     let p = linked_program c.args.cells.now c.args.ends.first in
-    at_number p c.args.n c.look.result (λ n. c.busy-fault.result ≡ busy_fault p n) c.look.ensures (c.busy-fault.ensures p)
+    at_number p c.args.n c.look.result (λ n. c.busy_fault.result ≡ busy_fault p n) c.look.ensures (c.busy_fault.ensures p)

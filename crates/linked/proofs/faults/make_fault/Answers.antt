@@ -8,5 +8,5 @@ use Rattle.linked.proofs.faults.make_fault.Goals as goal
 pub returns : goal.returns
 returns c =
     let p = linked_program c.args.cells.now c.args.ends.first in
-    at_number p c.args.n c.look-known.result (λ n. c.make-fault.result ≡ make_fault p n (plain c.args.what)) c.look-known.ensures
-    (λ h. c.make-fault.ensures p h c.look-a.ensures c.look-b.ensures c.look-c.ensures)
+    at_number p c.args.n c.look-known.result (λ n. c.make_fault.result ≡ make_fault p n (plain c.args.what)) c.look-known.ensures
+    (λ h. c.make_fault.ensures p h c.look-a.ensures c.look-b.ensures c.look-c.ensures)

@@ -9,8 +9,8 @@ use Rattle.linked.proofs.Knowing.{at_number}
 use Rattle.linked.proofs.Ordering.{range_low}
 use Rattle.linked.proofs.faults.unmake_fault.Goals as goal
 
-pub is-unused-unused-requires : goal.is-unused-unused-requires
-is-unused-unused-requires c =
+pub is_unused-unused-requires : goal.is_unused-unused-requires
+is_unused-unused-requires c =
     let xs = c.args.cells.now in
     let f = c.args.ends.first in
     let p = linked_program xs f in
@@ -29,5 +29,5 @@ returns-in-None c =
     let p = linked_program c.args.cells.now c.args.ends.first in
     let n = c.args.n in
     let known = c.look-known.ensures in
-    at_number p n c.look-known.result (λ m. c.unmake-fault.result ≡ unmake_fault p m) known
-    (λ h. c.unmake-fault.ensures p h (c.is-unused-unused.ensures ∙ ap (λ m. unused (uses p m)) (sym known.0)))
+    at_number p n c.look-known.result (λ m. c.unmake_fault.result ≡ unmake_fault p m) known
+    (λ h. c.unmake_fault.ensures p h (c.is_unused-unused.ensures ∙ ap (λ m. unused (uses p m)) (sym known.0)))

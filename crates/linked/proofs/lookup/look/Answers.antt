@@ -8,4 +8,4 @@ returns c =
     let xs = c.args.cells.now in
     let n = c.args.n in
     let f = c.args.ends.first in
-    (refl, sym (within_linked xs f n), c.state-of.ensures ∙ ap tag c.body-at-body.ensures ∙ sym (state_linked xs f c.args.ends.last c.requires.linked n))
+    (refl, sym (within_linked xs f n), c.state_of.ensures ∙ ap tag c.body_at-body.ensures ∙ sym (state_linked xs f c.args.ends.last c.requires.linked n))

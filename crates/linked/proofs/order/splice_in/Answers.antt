@@ -7,14 +7,14 @@ returns c =
     let n = c.args.n in
     let t = c.args.t in
     let p = prevs c.args.cells.now c.args.ends.last in
-    let m = c.prev-of-m.ensures in
+    let m = c.prev_of-m.ensures in
     record {
       nexts =
-          c.set-prev.ensures.nexts ∙ c.set-prev-three.ensures.nexts ∙ c.set-next-two.ensures.nexts
-          ∙ ap (λ l. set l n t) (c.set-next-one.ensures.nexts ∙ ap (λ k. set (nexts c.args.cells.now c.args.ends.first) k n) m);
+          c.set_prev.ensures.nexts ∙ c.set_prev-three.ensures.nexts ∙ c.set_next-two.ensures.nexts
+          ∙ ap (λ l. set l n t) (c.set_next-one.ensures.nexts ∙ ap (λ k. set (nexts c.args.cells.now c.args.ends.first) k n) m);
       prevs =
-          c.set-prev.ensures.prevs
-          ∙ ap (λ l. set l t n) (c.set-prev-three.ensures.prevs ∙ ap (λ l. set l n c.prev-of-m.result) (c.set-next-two.ensures.prevs ∙ c.set-next-one.ensures.prevs) ∙ ap (λ k. set p n k) m);
-      bodies = c.set-prev.ensures.bodies ∙ c.set-prev-three.ensures.bodies ∙ c.set-next-two.ensures.bodies ∙ c.set-next-one.ensures.bodies;
-      threads = c.set-prev.ensures.threads ∙ c.set-prev-three.ensures.threads ∙ c.set-next-two.ensures.threads ∙ c.set-next-one.ensures.threads;
+          c.set_prev.ensures.prevs
+          ∙ ap (λ l. set l t n) (c.set_prev-three.ensures.prevs ∙ ap (λ l. set l n c.prev_of-m.result) (c.set_next-two.ensures.prevs ∙ c.set_next-one.ensures.prevs) ∙ ap (λ k. set p n k) m);
+      bodies = c.set_prev.ensures.bodies ∙ c.set_prev-three.ensures.bodies ∙ c.set_next-two.ensures.bodies ∙ c.set_next-one.ensures.bodies;
+      threads = c.set_prev.ensures.threads ∙ c.set_prev-three.ensures.threads ∙ c.set_next-two.ensures.threads ∙ c.set_next-one.ensures.threads;
     }

@@ -8,8 +8,8 @@ use Rattle.linked.specs.Sound.{node_number}
 use Rattle.linked.proofs.Ordering.{unlink_low, previous_number}
 use Rattle.linked.proofs.readings.previous.Goals as goal
 
-pub prev-of-k-requires : goal.prev-of-k-requires
-prev-of-k-requires c =
+pub prev_of-k-requires : goal.prev_of-k-requires
+prev_of-k-requires c =
     let h = unlink_low c.args.cells.now c.args.ends.first c.args.ends.last c.requires.linked c.args.n (sym c.in-None.ensures) in
     omega arith
 
@@ -19,5 +19,5 @@ returns-in-None c =
     let f = c.args.ends.first in
     let n = c.args.n in
     let P = linked_program xs f in
-    answered_none (placed_fault P n) c.number-of.result (prior P.order (index_of n P.order)) c.in-None.ensures
-    (c.number-of.ensures ∙ ap (node_number (length xs)) c.prev-of-k.ensures ∙ sym (previous_number xs f c.args.ends.last c.requires.linked n (sym c.in-None.ensures)))
+    answered_none (placed_fault P n) c.number_of.result (prior P.order (index_of n P.order)) c.in-None.ensures
+    (c.number_of.ensures ∙ ap (node_number (length xs)) c.prev_of-k.ensures ∙ sym (previous_number xs f c.args.ends.last c.requires.linked n (sym c.in-None.ensures)))

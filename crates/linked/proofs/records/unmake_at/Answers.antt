@@ -8,8 +8,8 @@ use Rattle.linked.proofs.records.unmake_at.Goals as goal
 
 pub returns : goal.returns
 returns c = record {
-  woven = retabled c.args.cells.now c.clear-row.new.cells c.set-body.new.cells c.args.n Vacant (cleared (table_in c.args.cells.now) c.args.n) (unmade_table (map content (bodies c.args.cells.now)) c.args.n) c.clear-row.ensures.bodies c.set-body.ensures.bodies c.set-body.ensures.threads c.clear-row.ensures.woven;
-  nexts = λ e. c.set-body.ensures.nexts e ∙ c.clear-row.ensures.nexts e;
-  prevs = λ e. c.set-body.ensures.prevs e ∙ c.clear-row.ensures.prevs e;
-  bodies = c.set-body.ensures.bodies ∙ ap (λ s. set s c.args.n Vacant) c.clear-row.ensures.bodies;
+  woven = retabled c.args.cells.now c.clear_row.new.cells c.set_body.new.cells c.args.n Vacant (cleared (table_in c.args.cells.now) c.args.n) (unmade_table (map content (bodies c.args.cells.now)) c.args.n) c.clear_row.ensures.bodies c.set_body.ensures.bodies c.set_body.ensures.threads c.clear_row.ensures.woven;
+  nexts = λ e. c.set_body.ensures.nexts e ∙ c.clear_row.ensures.nexts e;
+  prevs = λ e. c.set_body.ensures.prevs e ∙ c.clear_row.ensures.prevs e;
+  bodies = c.set_body.ensures.bodies ∙ ap (λ s. set s c.args.n Vacant) c.clear_row.ensures.bodies;
 }

@@ -7,7 +7,7 @@ use Rattle.linked.proofs.Walks.{Walk, walk_start, walk_more, walk_all}
 use Rattle.linked.proofs.threads.node_before.Goals as goal
 
 pub slot-next-requires : goal.slot-next-requires
-slot-next-requires c = let e = c.head-of-w.ensures in omega (arith, e, c.requires.v)
+slot-next-requires c = let e = c.head_of-w.ensures in omega (arith, e, c.requires.v)
 
 pub loop-w-init : goal.loop-w-init
 loop-w-init c qs is =
@@ -15,7 +15,7 @@ loop-w-init c qs is =
     let v = c.args.v in
     let x = place c.args.x in
     let next = place c.slot-next.result in
-    let e = c.head-of-w.ensures in
+    let e = c.head_of-w.ensures in
     subst (λ w. Walk ls (4 * v) (spots v 0 qs) x w next) (sym e)
     (walk_start (length c.args.cells.now) qs ls is v x next c.requires.v (c.slot-next.ensures ∙ ap (λ k. get_or ls k 0) e))
 

@@ -4,8 +4,8 @@ use Rattle.linked.specs.Uses.{Threaded}
 use Rattle.linked.specs.Slots.{place, links}
 use Rattle.linked.proofs.threads.thread_if.Goals as goal
 
-pub thread-in-requires : goal.thread-in-requires
-thread-in-requires c =
+pub thread_in-requires : goal.thread_in-requires
+thread_in-requires c =
     let o = c.requires.1 in
     (c.requires.0, record { woven = o.woven; value = o.value c.if-not-present.false; within = o.within; plain = o.plain; free = o.free })
 

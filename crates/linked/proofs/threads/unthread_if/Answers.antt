@@ -4,8 +4,8 @@ use Rattle.linked.specs.Uses.{Threaded}
 use Rattle.linked.specs.Slots.{place, links}
 use Rattle.linked.proofs.threads.unthread_if.Goals as goal
 
-pub thread-out-requires : goal.thread-out-requires
-thread-out-requires c =
+pub thread_out-requires : goal.thread_out-requires
+thread_out-requires c =
     let o = c.requires.1 in
     let t = c.if-not-present.false in
     (c.requires.0, record { woven = o.woven; value = o.value t; used = o.used ∙ ap (λ b. cond b c.args.v 4096) t })

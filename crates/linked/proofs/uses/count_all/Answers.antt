@@ -8,15 +8,15 @@ use Rattle.linked.proofs.Usage.{listed_length}
 use Rattle.linked.proofs.uses.count_all.Goals as goal
 
 pub slot-next-requires : goal.slot-next-requires
-slot-next-requires c = let e = c.head-of.ensures in omega (arith, e, c.requires.v)
+slot-next-requires c = let e = c.head_of.ensures in omega (arith, e, c.requires.v)
 
 pub loop-next-init : goal.loop-next-init
 loop-next-init c =
     let xs = c.args.cells.now in
-    rest_start (length xs) (table_in xs) (links xs) c.requires.woven c.args.v (place c.slot-next.result) c.requires.v (c.slot-next.ensures ∙ ap (λ k. get_or (links xs) k 0) c.head-of.ensures)
+    rest_start (length xs) (table_in xs) (links xs) c.requires.woven c.args.v (place c.slot-next.result) c.requires.v (c.slot-next.ensures ∙ ap (λ k. get_or (links xs) k 0) c.head_of.ensures)
 
-pub overflow-add-count : goal.overflow-add-count
-overflow-add-count c =
+pub overflow_add-count : goal.overflow_add-count
+overflow_add-count c =
     let xs = c.args.cells.now in
     let total = length (spots c.args.v 0 (table_in xs)) in
     let few = c.requires.woven.few in

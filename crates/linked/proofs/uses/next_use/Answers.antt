@@ -10,7 +10,7 @@ pub returns-in-None : goal.returns-in-None
 returns-in-None c =
     let xs = c.args.cells.now in
     let us = uses_from c.args.v 0 (map content (bodies xs)) in
-    c.use-after.ensures ∙ ap (λ k. decode (get_or (links xs) k 0)) c.head-of.ensures ∙ use_first xs c.requires.woven c.args.v c.requires.v ∙ ap (λ o. least_beyond o us) (sym c.in-None.is)
+    c.use_after.ensures ∙ ap (λ k. decode (get_or (links xs) k 0)) c.head_of.ensures ∙ use_first xs c.requires.woven c.args.v c.requires.v ∙ ap (λ o. least_beyond o us) (sym c.in-None.is)
 
 pub returns-then-user-cells : goal.returns-then-user-cells
 returns-then-user-cells c =
@@ -18,10 +18,10 @@ returns-then-user-cells c =
     let us = uses_from c.args.v 0 (map content (bodies xs)) in
     sym (use_none xs c.requires.woven c.args.v c.requires.v c.in-Some.user c.in-Some.position c.if-user-cells.true) ∙ ap (λ o. least_beyond o us) (sym c.in-Some.is)
 
-pub use-after-requires-in-Some : goal.use-after-requires-in-Some
-use-after-requires-in-Some c =
-    let l = low_node c.args.cells.now c.requires.woven c.args.v c.requires.v (4 * c.in-Some.user + seat_of c.seat-at-seat.result + 1) in
-    let e = c.node-at-w.ensures in
+pub use_after-requires-in-Some : goal.use_after-requires-in-Some
+use_after-requires-in-Some c =
+    let l = low_node c.args.cells.now c.requires.woven c.args.v c.requires.v (4 * c.in-Some.user + seat_of c.seat_at-seat.result + 1) in
+    let e = c.node_at-w.ensures in
     omega arith
 
 pub returns-else-user-cells : goal.returns-else-user-cells
@@ -29,8 +29,8 @@ returns-else-user-cells c =
     let xs = c.args.cells.now in
     let us = uses_from c.args.v 0 (map content (bodies xs)) in
     let u = c.in-Some.user in
-    let q = c.seat-at-seat.ensures in
-    c.use-after-in-Some.ensures
-    ∙ ap (λ k. decode (get_or (links xs) k 0)) c.node-at-w.ensures
-    ∙ use_beyond xs c.requires.woven c.args.v c.requires.v u c.in-Some.position (seat_of c.seat-at-seat.result) q.0 q.1
+    let q = c.seat_at-seat.ensures in
+    c.use_after-in-Some.ensures
+    ∙ ap (λ k. decode (get_or (links xs) k 0)) c.node_at-w.ensures
+    ∙ use_beyond xs c.requires.woven c.args.v c.requires.v u c.in-Some.position (seat_of c.seat_at-seat.result) q.0 q.1
     ∙ ap (λ o. least_beyond o us) (sym c.in-Some.is)

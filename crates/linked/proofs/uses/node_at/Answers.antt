@@ -7,8 +7,8 @@ use Rattle.linked.proofs.Usage.{at_use}
 use Rattle.linked.proofs.Flats.{place_number}
 use Rattle.linked.proofs.uses.node_at.Goals as goal
 
-pub returns-then-read-at-v : goal.returns-then-read-at-v
-returns-then-read-at-v c = at_use c.args.cells.now c.requires.woven c.args.v c.requires.v (place c.args.x) (sym c.read-at.ensures ∙ c.if-read-at-v.true)
+pub returns-then-read_at-v : goal.returns-then-read_at-v
+returns-then-read_at-v c = at_use c.args.cells.now c.requires.woven c.args.v c.requires.v (place c.args.x) (sym c.read_at.ensures ∙ c.if-read_at-v.true)
 
 pub behind-requires : goal.behind-requires
 behind-requires c =
@@ -16,8 +16,8 @@ behind-requires c =
     let h = place_number c.args.x (length c.args.cells.now) c.requires.x in
     omega arith
 
-pub node-before-requires : goal.node-before-requires
-node-before-requires c =
+pub node_before-requires : goal.node_before-requires
+node_before-requires c =
     let e = c.behind.ensures in
     let h = c.requires.x in
     record { v = c.requires.v; x = omega arith; woven = (table_in c.args.cells.now, c.requires.woven) }
@@ -25,4 +25,4 @@ node-before-requires c =
 pub returns : goal.returns
 returns c =
     let qs = table_in c.args.cells.now in
-    c.node-before.ensures qs c.requires.woven ∙ ap (λ k. low k (4 * c.args.v) (spots c.args.v 0 qs)) c.behind.ensures
+    c.node_before.ensures qs c.requires.woven ∙ ap (λ k. low k (4 * c.args.v) (spots c.args.v 0 qs)) c.behind.ensures

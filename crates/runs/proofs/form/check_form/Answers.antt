@@ -19,7 +19,7 @@ returns-in-Some g c =
     record {
       answer = form_found p (g.S.Store.program c.size-size.new.self) c.size-size.ensures.after (g.S.Store.proper c.args.store.now) (length c.args.words.now) fits
           c.clear.new.words c.clear.ensures (Some c.in-Some.n) c.in-Some.ensures.answer;
-      after = c.first-broken-found.ensures.after ∙ c.size-size.ensures.after;
+      after = c.first_broken-found.ensures.after ∙ c.size-size.ensures.after;
       cleared = λ e. absurd (false≢true e);
     }
 
@@ -30,6 +30,6 @@ returns-in-None g c =
     record {
       answer = form_found p (g.S.Store.program c.size-size.new.self) c.size-size.ensures.after (g.S.Store.proper c.args.store.now) (length c.args.words.now) fits
           c.clear.new.words c.clear.ensures None c.in-None.ensures.answer;
-      after = c.first-broken-found.ensures.after ∙ c.size-size.ensures.after;
+      after = c.first_broken-found.ensures.after ∙ c.size-size.ensures.after;
       cleared = λ e. search rules;
     }

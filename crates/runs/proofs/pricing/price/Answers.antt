@@ -9,22 +9,22 @@ use Rattle.runs.proofs.Tests.{form_law}
 use Rattle.runs.proofs.Pricings.{price_whole}
 use Rattle.runs.proofs.pricing.price.Goals as goal
 
-pub walk-price-requires : goal.walk-price-requires
-walk-price-requires g c =
+pub walk_price-requires : goal.walk_price-requires
+walk_price-requires g c =
     let p = g.S.Store.program c.args.store.now in
-    let e = ap size c.check-form.ensures.after in
-    let f = none_fits p (length c.args.scratch.now) (ok_none (price_fault p (length c.args.scratch.now)) c.in-ok-check-form.field-0 c.in-ok-check-form.ensures.answer) in
+    let e = ap size c.check_form.ensures.after in
+    let f = none_fits p (length c.args.scratch.now) (ok_none (price_fault p (length c.args.scratch.now)) c.in_ok-check_form.field-0 c.in_ok-check_form.ensures.answer) in
     omega arith
 
-pub returns-in-err-check-form : goal.returns-in-err-check-form
-returns-in-err-check-form g c =
+pub returns-in_err-check_form : goal.returns-in_err-check_form
+returns-in_err-check_form g c =
     let p = g.S.Store.program c.args.store.now in
     let m = length c.args.scratch.now in
-    let f = c.in-err-check-form.field-0.0 in
-    let r = err_from_is_err_and c.from-residual.result c.from-residual.ensures.1 in
+    let f = c.in_err-check_form.field-0.0 in
+    let r = err_from_is_err_and c.from_residual.result c.from_residual.ensures.1 in
     record {
-      answer = r.1 ∙ ap Err r.2 ∙ sym (ap (λ o. counted o (price g.M.CostModel.costing p)) (err_some (price_fault p m) f c.in-err-check-form.ensures.answer));
-      after = c.in-err-check-form.ensures.after;
+      answer = r.1 ∙ ap Err r.2 ∙ sym (ap (λ o. counted o (price g.M.CostModel.costing p)) (err_some (price_fault p m) f c.in_err-check_form.ensures.answer));
+      after = c.in_err-check_form.ensures.after;
       scratch = search rules;
       form = form_law p (g.S.Store.proper c.args.store.now).distinct;
     }
@@ -34,14 +34,14 @@ returns g c =
     let k = g.M.CostModel.costing in
     let p = g.S.Store.program c.args.store.now in
     let m = length c.args.scratch.now in
-    let none = ok_none (price_fault p m) c.in-ok-check-form.field-0 c.in-ok-check-form.ensures.answer in
+    let none = ok_none (price_fault p m) c.in_ok-check_form.field-0 c.in_ok-check_form.ensures.answer in
     record {
-      answer = ap Ok (c.walk-price.ensures.answer
-          ∙ ap (λ q. price_words k (at q) 0 c.check-form.new.words q.order) c.check-form.ensures.after
-          ∙ ap (λ w. price_words k (at p) 0 w p.order) (c.in-ok-check-form.ensures.cleared refl)
+      answer = ap Ok (c.walk_price.ensures.answer
+          ∙ ap (λ q. price_words k (at q) 0 c.check_form.new.words q.order) c.check_form.ensures.after
+          ∙ ap (λ w. price_words k (at p) 0 w p.order) (c.in_ok-check_form.ensures.cleared refl)
           ∙ price_whole k p (g.S.Store.proper c.args.store.now) m (none_fits p m none))
           ∙ sym (ap (λ o. counted o (price k p)) none);
-      after = c.walk-price.ensures.after ∙ c.check-form.ensures.after;
+      after = c.walk_price.ensures.after ∙ c.check_form.ensures.after;
       scratch = search rules;
       form = form_law p (g.S.Store.proper c.args.store.now).distinct;
     }

@@ -19,8 +19,8 @@ returns-then-words-size g c =
       after = c.size-size.ensures.after;
     }
 
-pub walk-price-requires : goal.walk-price-requires
-walk-price-requires g c = let e = ap size c.size-size.ensures.after in let f = c.size-size.ensures.answer in omega (arith, c.if-words-size.false)
+pub walk_price-requires : goal.walk_price-requires
+walk_price-requires g c = let e = ap size c.size-size.ensures.after in let f = c.size-size.ensures.answer in omega (arith, c.if-words-size.false)
 
 pub returns : goal.returns
 returns g c =
@@ -30,10 +30,10 @@ returns g c =
     let same = c.size-size.ensures.after in
     let fits : size p ≤ length words = let e = c.size-size.ensures.answer in omega (arith, c.if-words-size.false) in
     let enough = room_enough p (length words) fits in
-    let walked = c.walk-price.ensures.answer ∙ ap (λ q. price_words k (at q) 0 words q.order) same in
+    let walked = c.walk_price.ensures.answer ∙ ap (λ q. price_words k (at q) 0 words q.order) same in
     record {
       answer = ap Ok walked ∙ sym (ap (λ o. counted o (price_words k (at p) 0 words p.order)) enough);
-      words = c.walk-price.ensures.words ∙ ap (λ q. stamps_left k (at q) words q.order) same ∙ sym (ap (λ o. either o (stamps_left k (at p) words p.order) words) enough);
+      words = c.walk_price.ensures.words ∙ ap (λ q. stamps_left k (at q) words q.order) same ∙ sym (ap (λ o. either o (stamps_left k (at p) words p.order) words) enough);
       formed = λ f h. ap Ok (walked ∙ price_any k p (g.S.Store.proper c.args.store.now) f words fits);
-      after = c.walk-price.ensures.after ∙ same;
+      after = c.walk_price.ensures.after ∙ same;
     }

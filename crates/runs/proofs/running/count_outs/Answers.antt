@@ -2,8 +2,8 @@ use Rattle.std.proofs.Common.{arith}
 use Rattle.runs.proofs.Sends.{few_outs, byte_bound}
 use Rattle.runs.proofs.running.count_outs.Goals as goal
 
-pub overflow-add-count : goal.overflow-add-count
-overflow-add-count g c =
+pub overflow_add-count : goal.overflow_add-count
+overflow_add-count g c =
     let most = few_outs (g.S.Store.program c.start-cursor.new.store) (g.S.Store.proper c.start-cursor.new.store) in
-    let one = byte_bound c.is-out.result in
+    let one = byte_bound c.is_out.result in
     omega (arith, c.from-count.ensures, c.loop-placed.invariant.2)

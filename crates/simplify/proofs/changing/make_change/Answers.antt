@@ -21,8 +21,8 @@ returns-in-Nothing g c =
       grown = (refl, ([], refl));
     }
 
-pub take-out-requires : goal.take-out-requires
-take-out-requires g c =
+pub take_out-requires : goal.take_out-requires
+take_out-requires g c =
     let s = meaning g.S.Store.program c.args.session.now in
     vanish_removable c.args.n s (subst (λ (x : Change). Makeable c.args.n (change_of x) s) c.in-Vanish.is c.requires)
 
@@ -31,12 +31,12 @@ returns-in-Vanish g c =
     let s = meaning g.S.Store.program c.args.session.now in
     let n = c.args.n in
     record {
-      after = c.take-out.ensures.after ∙ sym (ap (λ (x : Change). paid s (apply s.program n (change_of x)) (cost s.program n (change_of x))) c.in-Vanish.is);
-      grown = c.take-out.ensures.grown;
+      after = c.take_out.ensures.after ∙ sym (ap (λ (x : Change). paid s (apply s.program n (change_of x)) (cost s.program n (change_of x))) c.in-Vanish.is);
+      grown = c.take_out.ensures.grown;
     }
 
-pub take-out-requires-in-DropFor : goal.take-out-requires-in-DropFor
-take-out-requires-in-DropFor g c =
+pub take_out-requires-in-DropFor : goal.take_out-requires-in-DropFor
+take_out-requires-in-DropFor g c =
     let s = meaning g.S.Store.program c.args.session.now in
     let y = c.in-DropFor.other in
     let m = subst (λ (x : Change). Makeable c.args.n (change_of x) s) c.in-DropFor.is c.requires in
@@ -50,11 +50,11 @@ returns-in-DropFor g c =
     let m = subst (λ (x : Change). Makeable n (change_of x) s) c.in-DropFor.is c.requires in
     record {
       after =
-          c.take-out-in-DropFor.ensures.after
+          c.take_out-in-DropFor.ensures.after
           ∙ ap (λ (x : Copying). paid x (take_out x.program n) 2) (c.replace.ensures.after ∙ replace_paid n s y m)
           ∙ dropped n s y m
           ∙ sym (ap (λ (x : Change). paid s (apply s.program n (change_of x)) (cost s.program n (change_of x))) c.in-DropFor.is);
-      grown = grown-more c.args.session.now.journal c.replace.new.self.journal c.take-out-in-DropFor.new.session.journal c.replace.ensures.grown c.take-out-in-DropFor.ensures.grown;
+      grown = grown-more c.args.session.now.journal c.replace.new.self.journal c.take_out-in-DropFor.new.session.journal c.replace.ensures.grown c.take_out-in-DropFor.ensures.grown;
     }
 
 pub returns-in-Become : goal.returns-in-Become

@@ -11,12 +11,12 @@ value : (o : Option StoreFault) (x y : ℕ) → Ok x ≡ answered o y → x ≡ 
 value None x y e = cc
 value (Some f) x y e = let z : ◌≡◌ {A = ℕ} 0 1 = cc in absurd (omega arith)
 
-pub overflow-add-result : goal.overflow-add-result
-overflow-add-result g c =
+pub overflow_add-result : goal.overflow_add-result
+overflow_add-result g c =
     let p = g.S.Store.program c.next.new.self.store in
     let n = c.args.n in
-    let e = value (busy_fault p n) c.in-ok-count.count (length (uses p n)) c.in-ok-count.ensures.answer in
+    let e = value (busy_fault p n) c.in_ok-count.count (length (uses p n)) c.in_ok-count.ensures.answer in
     let few = (g.S.Store.proper c.next.new.self.store).few in
     let h = few_uses p n in
-    let k : c.in-ok-count.count ≤ 3072 = omega arith in
+    let k : c.in_ok-count.count ≤ 3072 = omega arith in
     omega arith

@@ -29,11 +29,11 @@ loop-place-init g c =
       (refl, ([], refl)),
     )
 
-pub try-at-requires : goal.try-at-requires
-try-at-requires g c = ?
+pub try_at-requires : goal.try_at-requires
+try_at-requires g c = ?
 
-pub returns-in-err-tried : goal.returns-in-err-tried
-returns-in-err-tried g c = ?
+pub returns-in_err-tried : goal.returns-in_err-tried
+returns-in_err-tried g c = ?
 
 pub tally-requires : goal.tally-requires
 tally-requires g c = ?

@@ -16,29 +16,29 @@ use Rattle.simplify.proofs.Journals.{same_meaning}
 use Rattle.simplify.proofs.Stepping.{placed_fine, never_refused, value_is, records_there, records_short}
 use Rattle.simplify.proofs.passing.try_at.Goals as goal
 
-pub returns-in-err-need : goal.returns-in-err-need
-returns-in-err-need g c =
+pub returns-in_err-need : goal.returns-in_err-need
+returns-in_err-need g c =
     let a = c.args.session.now in
     let p = g.S.Store.program a.store in
-    absurd (never_refused (placed_fault p c.args.n) (need-of p c.args.n) c.in-err-need.field-0.0 (placed_fine p c.args.n (g.S.Store.proper a.store) c.requires.placed)
-    c.in-err-need.ensures.answer)
+    absurd (never_refused (placed_fault p c.args.n) (need-of p c.args.n) c.in_err-need.field-0.0 (placed_fine p c.args.n (g.S.Store.proper a.store) c.requires.placed)
+    c.in_err-need.ensures.answer)
 
-pub returns-in-err-check-records : goal.returns-in-err-check-records
-returns-in-err-check-records g c =
+pub returns-in_err-check_records : goal.returns-in_err-check_records
+returns-in_err-check_records g c =
     let program = g.S.Store.program in
     let a = c.args.session.now in
     let p = program a.store in
     let n = c.args.n in
-    let x = c.need-at in
-    let y = c.check-records in
+    let x = c.need_at in
+    let y = c.check_records in
     let first = same_meaning program a x.new.session x.ensures.same x.ensures.journal in
-    let needed = value_is (placed_fault p n) (need-of p n) c.in-ok-need.need (placed_fine p n (g.S.Store.proper a.store) c.requires.placed) c.in-ok-need.ensures.answer in
-    let few = records_short c.in-ok-need.need (meaning program x.new.session) c.in-err-check-records.field-0.0 c.in-err-check-records.ensures.answer in
-    let q = err_from_is_err_and c.from-residual-in-err-check-records.result c.from-residual-in-err-check-records.ensures.1 in
+    let needed = value_is (placed_fault p n) (need-of p n) c.in_ok-need.need (placed_fine p n (g.S.Store.proper a.store) c.requires.placed) c.in_ok-need.ensures.answer in
+    let few = records_short c.in_ok-need.need (meaning program x.new.session) c.in_err-check_records.field-0.0 c.in_err-check_records.ensures.answer in
+    let q = err_from_is_err_and c.from_residual-in_err-check_records.result c.from_residual-in_err-check_records.ensures.1 in
     let k = g.M.CostModel.costing in
     let t = meaning program y.new.session in
     let bad : Result (ℕ × ℕ) SimplifyFault = Err (Session (TooFewRecords (need-of p n))) in
-    let is : result_map_both (λ (z : Tries). (z.rule, z.price)) (λ f. f) c.from-residual-in-err-check-records.result ≡ bad
+    let is : result_map_both (λ (z : Tries). (z.rule, z.price)) (λ f. f) c.from_residual-in_err-check_records.result ≡ bad
     = ap (result_map_both (λ (z : Tries). (z.rule, z.price)) (λ f. f)) (q.1 ∙ ap Err (q.2 ∙ few.1)) ∙ ap (λ m. Err (Session (TooFewRecords m))) needed in
     record {
       tried =
@@ -50,18 +50,18 @@ returns-in-err-check-records g c =
       grown = (ap marks (y.ensures.journal ∙ x.ensures.journal), ([], ap trail (y.ensures.journal ∙ x.ensures.journal)));
     }
 
-pub try-rules-requires : goal.try-rules-requires
-try-rules-requires g c =
+pub try_rules-requires : goal.try_rules-requires
+try_rules-requires g c =
     let program = g.S.Store.program in
     let a = c.args.session.now in
     let p = program a.store in
     let n = c.args.n in
-    let x = c.need-at in
-    let y = c.check-records in
+    let x = c.need_at in
+    let y = c.check_records in
     let first = same_meaning program a x.new.session x.ensures.same x.ensures.journal in
     let both = same_meaning program x.new.session y.new.session y.ensures.same y.ensures.journal ∙ first in
-    let needed = value_is (placed_fault p n) (need-of p n) c.in-ok-need.need (placed_fine p n (g.S.Store.proper a.store) c.requires.placed) c.in-ok-need.ensures.answer in
-    let there = records_there c.in-ok-need.need (meaning program x.new.session) c.in-ok-check-records.field-0 c.in-ok-check-records.ensures.answer in
+    let needed = value_is (placed_fault p n) (need-of p n) c.in_ok-need.need (placed_fine p n (g.S.Store.proper a.store) c.requires.placed) c.in_ok-need.ensures.answer in
+    let there = records_there c.in_ok-need.need (meaning program x.new.session) c.in_ok-check_records.field-0 c.in_ok-check_records.ensures.answer in
     let e = c.requires.going in
     subst (Ready g.M.CostModel.costing n (length c.args.words.now) c.args.price) (sym both)
     (record {
@@ -79,13 +79,13 @@ returns g c =
     let a = c.args.session.now in
     let p = program a.store in
     let n = c.args.n in
-    let x = c.need-at in
-    let y = c.check-records in
-    let z = c.try-rules in
+    let x = c.need_at in
+    let y = c.check_records in
+    let z = c.try_rules in
     let first = same_meaning program a x.new.session x.ensures.same x.ensures.journal in
     let both = same_meaning program x.new.session y.new.session y.ensures.same y.ensures.journal ∙ first in
-    let needed = value_is (placed_fault p n) (need-of p n) c.in-ok-need.need (placed_fine p n (g.S.Store.proper a.store) c.requires.placed) c.in-ok-need.ensures.answer in
-    let there = records_there c.in-ok-need.need (meaning program x.new.session) c.in-ok-check-records.field-0 c.in-ok-check-records.ensures.answer in
+    let needed = value_is (placed_fault p n) (need-of p n) c.in_ok-need.need (placed_fine p n (g.S.Store.proper a.store) c.requires.placed) c.in_ok-need.ensures.answer in
+    let there = records_there c.in_ok-need.need (meaning program x.new.session) c.in_ok-check_records.field-0 c.in_ok-check_records.ensures.answer in
     record {
       tried = (
         subst (λ (w : Copying). need-of p n ≤ w.left) first (subst (λ m. m ≤ (meaning program x.new.session).left) needed there),

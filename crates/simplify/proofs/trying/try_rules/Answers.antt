@@ -11,8 +11,8 @@ use Rattle.simplify.proofs.trying.try_rules.Goals as goal
 pub loop-rule-init : goal.loop-rule-init
 loop-rule-init g c = (refl, choice_begins g.M.CostModel.costing (g.S.Store.program c.args.session.now.store) c.args.n, (refl, ([], refl)))
 
-pub try-rule-requires : goal.try-rule-requires
-try-rule-requires g c =
+pub try_rule-requires : goal.try_rule-requires
+try_rule-requires g c =
     let k = g.M.CostModel.costing in
     record {
       ready =
@@ -27,23 +27,23 @@ loop-rule-preserved g c =
     let s = meaning g.S.Store.program c.args.session.now in
     let n = c.args.n in
     let rule = c.loop-rule.rule in
-    let a = subst (λ (x : Copying). Attempted k n (rule_at x.program rule n) x (meaning g.S.Store.program c.try-rule.new.session) None) c.loop-rule.invariant.0 c.in-default.ensures.tried in (
+    let a = subst (λ (x : Copying). Attempted k n (rule_at x.program rule n) x (meaning g.S.Store.program c.try_rule.new.session) None) c.loop-rule.invariant.0 c.in_default.ensures.tried in (
       a.1,
       choice_on k s.program n rule c.loop-rule-test.true c.loop-rule.invariant.1 a.0,
-      grown-more c.args.session.now.journal c.loop-rule.session.journal c.try-rule.new.session.journal c.loop-rule.invariant.2 c.try-rule.ensures.grown,
+      grown-more c.args.session.now.journal c.loop-rule.session.journal c.try_rule.new.session.journal c.loop-rule.invariant.2 c.try_rule.ensures.grown,
     )
 
 pub returns-in-Some : goal.returns-in-Some
 returns-in-Some g c =
     let k = g.M.CostModel.costing in
     let s = meaning g.S.Store.program c.args.session.now in
-    let t = meaning g.S.Store.program c.try-rule.new.session in
+    let t = meaning g.S.Store.program c.try_rule.new.session in
     let n = c.args.n in
     let rule = c.loop-rule.rule in
     let a = subst (λ (x : Copying). Attempted k n (rule_at x.program rule n) x t (Some c.in-Some.price)) c.loop-rule.invariant.0 c.in-Some.ensures.tried in
     record {
       tried = tried_some k n s t rule c.in-Some.price (choice_here k s.program n rule c.loop-rule-test.true c.loop-rule.invariant.1 a.1) a;
-      grown = grown-more c.args.session.now.journal c.loop-rule.session.journal c.try-rule.new.session.journal c.loop-rule.invariant.2 c.try-rule.ensures.grown;
+      grown = grown-more c.args.session.now.journal c.loop-rule.session.journal c.try_rule.new.session.journal c.loop-rule.invariant.2 c.try_rule.ensures.grown;
     }
 
 pub returns : goal.returns

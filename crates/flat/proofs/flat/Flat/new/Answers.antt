@@ -7,8 +7,8 @@ use Rattle.flat.proofs.Fresh.{sound_fresh, program_fresh}
 use Rattle.flat.proofs.Held.{fields}
 use Rattle.flat.proofs.flat.Flat.new.Goals as goal
 
-pub invariant-of-result : goal.invariant-of-result
-invariant-of-result c =
+pub invariant_of-result : goal.invariant_of-result
+invariant_of-result c =
     let part = take (c.min-n.result - 0) c.args.cells.now in
     let l = length-take (c.min-n.result - 0) c.args.cells.now in
     let few : length part ≤ 1024 = omega arith in

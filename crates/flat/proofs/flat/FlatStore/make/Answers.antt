@@ -8,8 +8,8 @@ use Rattle.flat.proofs.flat.FlatStore.make.Goals as goal
 pub make-r-requires : goal.make-r-requires
 make-r-requires c = taken_sound c.args.self.now c.replace-cells.result c.replace-cells.ensures.value
 
-pub invariant-of-self : goal.invariant-of-self
-invariant-of-self c =
+pub invariant_of-self : goal.invariant_of-self
+invariant_of-self c =
     let e = c.make-r.ensures in
     let kept = taken_kept c.args.self.now c.replace-cells.result c.replace-cells.ensures.value in
     fields c.make-r.new.cells e.sound _ e.after (kept.by_make c.args.n (plain c.args.what) c.args.what.shaped)

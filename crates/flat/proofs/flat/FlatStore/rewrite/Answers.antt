@@ -8,8 +8,8 @@ use Rattle.flat.proofs.flat.FlatStore.rewrite.Goals as goal
 pub rewrite-r-requires : goal.rewrite-r-requires
 rewrite-r-requires c = taken_sound c.args.self.now c.replace-cells.result c.replace-cells.ensures.value
 
-pub invariant-of-self : goal.invariant-of-self
-invariant-of-self c =
+pub invariant_of-self : goal.invariant_of-self
+invariant_of-self c =
     let e = c.rewrite-r.ensures in
     let kept = taken_kept c.args.self.now c.replace-cells.result c.replace-cells.ensures.value in
     fields c.rewrite-r.new.cells e.sound _ e.after (kept.by_rewrite c.args.n (plain c.args.what) c.args.what.shaped)

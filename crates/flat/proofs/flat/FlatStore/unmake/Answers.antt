@@ -4,8 +4,8 @@ use Rattle.flat.proofs.flat.FlatStore.unmake.Goals as goal
 pub unmake-r-requires : goal.unmake-r-requires
 unmake-r-requires c = taken_sound c.args.self.now c.replace-cells.result c.replace-cells.ensures.value
 
-pub invariant-of-self : goal.invariant-of-self
-invariant-of-self c =
+pub invariant_of-self : goal.invariant_of-self
+invariant_of-self c =
     let e = c.unmake-r.ensures in
     let kept = taken_kept c.args.self.now c.replace-cells.result c.replace-cells.ensures.value in
     fields c.unmake-r.new.cells e.sound _ e.after (kept.by_unmake c.args.n)

@@ -8,8 +8,8 @@ use Rattle.linked.proofs.Fresh.{sound_fresh, program_fresh}
 use Rattle.linked.proofs.Held.{fields}
 use Rattle.linked.proofs.linked.Linked.new.Goals as goal
 
-pub invariant-of-result : goal.invariant-of-result
-invariant-of-result c =
+pub invariant_of-result : goal.invariant_of-result
+invariant_of-result c =
     let n = c.min-n.result in
     let l = length-take (n - 0) c.args.cells.now in
     let m : length (take (n - 0) c.args.cells.now) ≡ n = omega arith in

@@ -4,5 +4,5 @@ use Rattle.linked.proofs.linked.LinkedStore.last.Goals as goal
 pub last-r-requires : goal.last-r-requires
 last-r-requires c = taken_sound c.args.self.now c.replace-cells.result c.replace-cells.ensures.value
 
-pub invariant-of-self : goal.invariant-of-self
-invariant-of-self c = taken_fields c.args.self.now c.replace-cells.result c.replace-cells.ensures.value
+pub invariant_of-self : goal.invariant_of-self
+invariant_of-self c = taken_fields c.args.self.now c.replace-cells.result c.replace-cells.ensures.value

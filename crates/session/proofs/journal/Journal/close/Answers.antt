@@ -7,17 +7,17 @@ use Rattle.session.proofs.journal.Journal.close.Goals.{then-depth-eq0, else-dept
 abbrev Left : ℕ → ℕ → ℕ → Type 0
 Left d n len = ((d ≡ 0) × (n ≡ 0)) ⊎ ((d ≡ 0 → ⊥) × (n ≡ len))
 
-pub invariant-of-self : goal.invariant-of-self
-invariant-of-self c =
-    let left : Left c.saturating-sub-depth.result c.if-depth-eq0.len c.args.self.now.len
+pub invariant_of-self : goal.invariant_of-self
+invariant_of-self c =
+    let left : Left c.saturating_sub-depth.result c.if-depth-eq0.len c.args.self.now.len
     = elim c.if-depth-eq0.branch [ then-depth-eq0 w ↦ inl (w.if-depth-eq0.true, w.len-is) | else-depth-eq0 w ↦ inr (w.if-depth-eq0.false, w.len-is) ] in
-    close_fields c.args.self.now c.saturating-sub-depth.result c.if-depth-eq0.len c.saturating-sub-depth.ensures left
+    close_fields c.args.self.now c.saturating_sub-depth.result c.if-depth-eq0.len c.saturating_sub-depth.ensures left
 
 pub returns : goal.returns
 returns c =
-    let left : Left c.saturating-sub-depth.result c.if-depth-eq0.len c.args.self.now.len
+    let left : Left c.saturating_sub-depth.result c.if-depth-eq0.len c.args.self.now.len
     = elim c.if-depth-eq0.branch [ then-depth-eq0 w ↦ inl (w.if-depth-eq0.true, w.len-is) | else-depth-eq0 w ↦ inr (w.if-depth-eq0.false, w.len-is) ] in
     record {
-      saves = close_marks c.args.self.now c.saturating-sub-depth.result c.if-depth-eq0.len c.saturating-sub-depth.ensures left;
-      records = close_trail c.args.self.now c.saturating-sub-depth.result c.if-depth-eq0.len c.saturating-sub-depth.ensures left;
+      saves = close_marks c.args.self.now c.saturating_sub-depth.result c.if-depth-eq0.len c.saturating_sub-depth.ensures left;
+      records = close_trail c.args.self.now c.saturating_sub-depth.result c.if-depth-eq0.len c.saturating_sub-depth.ensures left;
     }

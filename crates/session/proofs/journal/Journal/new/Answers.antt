@@ -4,8 +4,8 @@ use Rattle.session.proofs.Stacks.{stack_none}
 use Rattle.session.proofs.Rows.{none_noted}
 use Rattle.session.proofs.journal.Journal.new.Goals as goal
 
-pub invariant-of-result : goal.invariant-of-result
-invariant-of-result c = (refl, (omega arith, (refl, (omega arith, (ap (marked? 0) (stack_none _), tt)))))
+pub invariant_of-result : goal.invariant_of-result
+invariant_of-result c = (refl, (omega arith, (refl, (omega arith, (ap (marked? 0) (stack_none _), tt)))))
 
 pub returns : goal.returns
 returns c = record { records = none_noted _; saves = stack_none _ }

@@ -8,8 +8,8 @@ use Rattle.session.proofs.journal.Journal.open.Goals as goal
 pub returns-then-depth-ge8 : goal.returns-then-depth-ge8
 returns-then-depth-ge8 c = record { room = sym (ap (λ n. ltb n 8) (marks_length c.args.self.now) ∙ le-ltb _ _ c.if-depth-ge8.true); saves = refl; records = refl }
 
-pub invariant-of-self : goal.invariant-of-self
-invariant-of-self c = open_fields c.args.self.now (record { at = c.args.self.now.len; held = c.args.held }) refl c.if-depth-ge8.false
+pub invariant_of-self : goal.invariant_of-self
+invariant_of-self c = open_fields c.args.self.now (record { at = c.args.self.now.len; held = c.args.held }) refl c.if-depth-ge8.false
 
 pub returns : goal.returns
 returns c =

@@ -6,8 +6,8 @@ use Rattle.session.proofs.Stacks.{top_cons, top_nil}
 use Rattle.session.proofs.Rows.{trail_length, pop_fields, pop_trail, pop_high, stays_low, stays_high}
 use Rattle.session.proofs.journal.Journal.pop.Goals as goal
 
-pub returns-in-default : goal.returns-in-default
-returns-in-default c = record { records = (refl, subst (λ ms. Low ms (trail c.args.self.now)) (sym (top_nil (marks c.args.self.now) c.in-default.ensures)) tt); saves = refl }
+pub returns-in_default : goal.returns-in_default
+returns-in_default c = record { records = (refl, subst (λ ms. Low ms (trail c.args.self.now)) (sym (top_nil (marks c.args.self.now) c.in_default.ensures)) tt); saves = refl }
 
 pub returns-then-self-mark : goal.returns-then-self-mark
 returns-then-self-mark c =
@@ -15,8 +15,8 @@ returns-then-self-mark c =
     let is = top_cons (marks j) c.in-Some.mark c.in-Some.ensures in
     record { records = (refl, stays_low (marks j) (trail j) c.in-Some.mark j.len is (trail_length j) c.if-self-mark.true); saves = refl }
 
-pub invariant-of-self : goal.invariant-of-self
-invariant-of-self c =
+pub invariant_of-self : goal.invariant_of-self
+invariant_of-self c =
     let j = c.args.self.now in
     pop_fields j c.in-Some.mark (rest (marks j)) (top_cons (marks j) c.in-Some.mark c.in-Some.ensures) c.if-self-mark.false
 

@@ -17,8 +17,8 @@ returns-then-at-ge512 c =
     let r = room_full (marks j) (edit_of c.args.«record») (trail j) (λ z. c.if-self-eq0.false (sym (marks_length j) ∙ z)) full in
     record { room = r.0; records = r.1; saves = refl }
 
-pub invariant-of-self : goal.invariant-of-self
-invariant-of-self c = push_fields c.args.self.now c.args.«record» c.if-self-eq0.false c.if-at-ge512.false
+pub invariant_of-self : goal.invariant_of-self
+invariant_of-self c = push_fields c.args.self.now c.args.«record» c.if-self-eq0.false c.if-at-ge512.false
 
 pub returns : goal.returns
 returns c =

@@ -9,16 +9,16 @@ use Rattle.session.proofs.Rows.{trail_length}
 use Rattle.session.proofs.Steps.{stepped, closable_some, step_unclosed, step_accept}
 use Rattle.session.proofs.session.Session.close_kept.Goals as goal
 
-pub returns-in-err-closing : goal.returns-in-err-closing
-returns-in-err-closing g c =
+pub returns-in_err-closing : goal.returns-in_err-closing
+returns-in_err-closing g c =
     let a = c.args.self.now in
     let p = g.S.Store.program a.store in
     let t = trail a.journal in
     let ms = marks a.journal in
-    let f = c.in-err-closing.field-0.0 in
-    let q = err_from_is_err_and c.from-residual.result c.from-residual.ensures.1 in
-    stepped g.S.Store.program (accept_step c.args.depth c.args.held) a _ c.from-residual.result p t ms refl refl refl
-    (step_unclosed p t ms c.args.depth c.args.held (accepted (copying p t ms) (copies p t ms)) f (sym c.in-err-closing.ensures) ∙ ap (to (copying p t ms)) (sym (q.1 ∙ ap Err q.2)))
+    let f = c.in_err-closing.field-0.0 in
+    let q = err_from_is_err_and c.from_residual.result c.from_residual.ensures.1 in
+    stepped g.S.Store.program (accept_step c.args.depth c.args.held) a _ c.from_residual.result p t ms refl refl refl
+    (step_unclosed p t ms c.args.depth c.args.held (accepted (copying p t ms) (copies p t ms)) f (sym c.in_err-closing.ensures) ∙ ap (to (copying p t ms)) (sym (q.1 ∙ ap Err q.2)))
     (λ o. (refl, refl))
 
 pub returns : goal.returns
@@ -27,7 +27,7 @@ returns g c =
     let p = g.S.Store.program a.store in
     let t = trail a.journal in
     let ms = marks a.journal in
-    let ok = sym c.in-ok-closing.ensures in
+    let ok = sym c.in_ok-closing.ensures in
     let top = closable_some ms c.args.depth c.args.held ok in
     let fit = ap (λ n. marked? n ms) (trail_length a.journal) ∙ a.journal.marked in
     stepped g.S.Store.program (accept_step c.args.depth c.args.held) a _ (Ok tt) p (kept (rest ms) t) (rest ms) refl c.close.ensures.records c.close.ensures.saves

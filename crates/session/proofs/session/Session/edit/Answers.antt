@@ -19,7 +19,7 @@ returns-then-push g c =
     let t = trail a.journal in
     let ms = marks a.journal in
     let same = c.opposite-back.ensures.after in
-    let fine : fault_of p e ≡ None = sym (ap (λ q. fault_of q e) same) ∙ fine_from_ok (fault_of (program c.opposite-back.new.store) e) c.in-ok-apply.field-0 c.in-ok-apply.ensures.answer in
+    let fine : fault_of p e ≡ None = sym (ap (λ q. fault_of q e) same) ∙ fine_from_ok (fault_of (program c.opposite-back.new.store) e) c.in_ok-apply.field-0 c.in_ok-apply.ensures.answer in
     let back = (edits_undone p e (g.S.Store.proper a.store) (fair_command c.args.command) fine).back in
     let fit = ap (λ n. marked? n ms) (trail_length a.journal) ∙ a.journal.marked in
     stepped program (edit_step e) a _ (Ok tt) (after p e) (noted ms (opposite p e) t) ms
@@ -38,7 +38,7 @@ returns g c =
     let t = trail a.journal in
     let ms = marks a.journal in
     let same = c.opposite-back.ensures.after in
-    let fine : fault_of p e ≡ None = sym (ap (λ q. fault_of q e) same) ∙ fine_from_ok (fault_of (program c.opposite-back.new.store) e) c.in-ok-apply.field-0 c.in-ok-apply.ensures.answer in
+    let fine : fault_of p e ≡ None = sym (ap (λ q. fault_of q e) same) ∙ fine_from_ok (fault_of (program c.opposite-back.new.store) e) c.in_ok-apply.field-0 c.in_ok-apply.ensures.answer in
     let back = (edits_undone p e (g.S.Store.proper a.store) (fair_command c.args.command) fine).back in
     let moved = c.apply.ensures.after ∙ ap (λ q. after q e) same in
     stepped program (edit_step e) a _ (Err (TooFewRecords 1)) p t ms

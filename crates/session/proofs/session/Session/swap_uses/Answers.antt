@@ -35,12 +35,12 @@ turn g c =
     let h = head_use (uses p n) y (c.in-Some.ensures.answer r.can.busy_n) in
     let pos = use_position p n y h.0 h.1 in
     let what = plain c.swapped-what.result in
-    let at_is = c.record-at.ensures.answer ∙ ap (λ q. at q u) c.first-use.ensures.after in
-    let room : y.1 ≤ arity c.record-at.result.op = subst (λ i. y.1 ≤ arity i.op) (sym at_is) pos.1 in
+    let at_is = c.record_at.ensures.answer ∙ ap (λ q. at q u) c.first_use.ensures.after in
+    let room : y.1 ≤ arity c.record_at.result.op = subst (λ i. y.1 ≤ arity i.op) (sym at_is) pos.1 in
     let what_is : what ≡ swap_at y.1 m (at p u) = c.swapped-what.ensures pos.0 room ∙ ap (swap_at y.1 m) at_is in
     let moved =
     c.edit.ensures.after
-    ∙ ap (λ q. (edit_step (rewrite u what) (copying q t ms)).after) (c.record-at.ensures.after ∙ c.first-use.ensures.after)
+    ∙ ap (λ q. (edit_step (rewrite u what) (copying q t ms)).after) (c.record_at.ensures.after ∙ c.first_use.ensures.after)
     ∙ ap (λ i. (edit_step (rewrite u i) s).after) what_is
     ∙ one_edit s n m y h.0 (g.S.Store.proper a.store) r h.1 in
     record {
@@ -59,7 +59,7 @@ pub returns : goal.returns
 returns g c =
     let program = g.S.Store.program in
     let a = c.loop-found.self in
-    let none = no_use_left (uses (program a.store) c.args.n) (c.in-default.ensures.answer c.loop-found.invariant.0.can.busy_n) in
-    ap (λ q. copying q (trail a.journal) (marks a.journal)) c.first-use.ensures.after
+    let none = no_use_left (uses (program a.store) c.args.n) (c.in_default.ensures.answer c.loop-found.invariant.0.can.busy_n) in
+    ap (λ q. copying q (trail a.journal) (marks a.journal)) c.first_use.ensures.after
     ∙ none_swept (meaning program a) c.args.n c.args.m none
     ∙ c.loop-found.invariant.1
