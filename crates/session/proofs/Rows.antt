@@ -22,7 +22,7 @@ marks_length j = let f = j.shallow in let s = j.wide in length_stack j.marks j.d
 
 -- the ghost fields, in their order
 abbrev pub Fields : List Command → ℕ → List Mark → ℕ → Type 0
-Fields es n ms d = (length es ≡ 512) × ((n ≤ 512) × ((length ms ≡ 8) × ((d ≤ 8) × ((marked? n (stack ms d) ≡ true) × Unit {0}))))
+Fields es n ms d = record {sized : length es ≡ 512; few : n ≤ 512; wide : length ms ≡ 8; shallow : d ≤ 8; marked : marked? n (stack ms d) ≡ true}
 
 -- no record, and no mark
 pub none_noted : (es : List Command) → map edit_of (stack es 0) ≡ []
@@ -31,7 +31,13 @@ none_noted es = ap (map edit_of) (stack_none es)
 module _ (j : Journal) where
   pub push_fields : (c : Command) → (j.depth ≡ 0 → ⊥) → j.len < 512 → Fields (set j.entries j.len c) (j.len + 1) j.marks j.depth
   push_fields c d h =
-      (length-set j.entries j.len c ∙ j.sized, (omega arith, (j.wide, (j.shallow, (by_marks (marks j) (marks_length j) j.marked, tt)))))
+      record {
+        sized = length-set j.entries j.len c ∙ j.sized;
+        few = omega arith;
+        wide = j.wide;
+        shallow = j.shallow;
+        marked = by_marks (marks j) (marks_length j) j.marked;
+      }
     where
       by_marks : (ms : List Mark) → length ms ≡ j.depth → marked? j.len ms ≡ true → marked? (j.len + 1) ms ≡ true
       by_marks [] l e = absurd (d (sym l))
@@ -44,19 +50,13 @@ module _ (j : Journal) where
   open_marks m h = let s = j.wide in stack_push j.marks j.depth m (omega arith)
 
   pub open_fields : (m : Mark) → m.at ≡ j.len → j.depth < 8 → Fields j.entries j.len (set j.marks j.depth m) (j.depth + 1)
-  open_fields m e h = (
-    j.sized,
-    (
-      j.few,
-      (
-        length-set j.marks j.depth m ∙ j.wide,
-        (
-          omega arith,
-          (ap (marked? j.len) (open_marks m h) ∙ marked_on j.len m (marks j) (omega arith) (subst (λ n. marked? n (marks j) ≡ true) (sym e) j.marked), tt),
-        ),
-      ),
-    ),
-  )
+  open_fields m e h = record {
+    sized = j.sized;
+    few = j.few;
+    wide = length-set j.marks j.depth m ∙ j.wide;
+    shallow = omega arith;
+    marked = ap (marked? j.len) (open_marks m h) ∙ marked_on j.len m (marks j) (omega arith) (subst (λ n. marked? n (marks j) ≡ true) (sym e) j.marked);
+  }
 
   pub top_mark : (d : Mark) → 0 < j.depth → top (marks j) ≡ Some (get_or j.marks (j.depth - 1) d)
   top_mark d h = let s = j.wide in let k = j.shallow in sym (stack_top j.marks j.depth d h (omega arith))
@@ -69,19 +69,14 @@ module _ (j : Journal) where
     pub pop_fields : Fields j.entries (j.len - 1) j.marks j.depth
     pop_fields =
         let f = j.few in
-        let k : marked? j.len (m ∷ ms) ≡ true = subst (λ l. marked? j.len l ≡ true) is j.marked in (
-          j.sized,
-          (
-            omega arith,
-            (
-              j.wide,
-              (
-                j.shallow,
-                (ap (marked? (j.len - 1)) is ∙ marked_on (j.len - 1) m ms (omega arith) (marked_tail j.len m ms k), tt),
-              ),
-            ),
-          ),
-        )
+        let k : marked? j.len (m ∷ ms) ≡ true = subst (λ l. marked? j.len l ≡ true) is j.marked in
+        record {
+          sized = j.sized;
+          few = omega arith;
+          wide = j.wide;
+          shallow = j.shallow;
+          marked = ap (marked? (j.len - 1)) is ∙ marked_on (j.len - 1) m ms (omega arith) (marked_tail j.len m ms k);
+        }
 
     pub pop_trail : (d : Command) → trail j ≡ edit_of (get_or j.entries (j.len - 1) d) ∷ map edit_of (stack j.entries (j.len - 1))
     pop_trail d = let f = j.few in let s = j.sized in ap (map edit_of) (stack_pop j.entries j.len d (omega arith) (omega arith))
@@ -152,20 +147,20 @@ module _ (j : Journal) (d n : ℕ) (e : d ≡ j.depth - 1) (came : ((d ≡ 0) ×
       let k = j.shallow in
       let f = j.few in
       ⊎_elim
-      (λ h. (
-        j.sized,
-        (
-          let z = h.1 in omega arith,
-          (
-            j.wide,
-            (
-              let z = h.0 in omega arith,
-              (ap (λ m. marked? n (stack j.marks m)) h.0 ∙ ap (marked? n) (stack_none j.marks) ∙ eq-eqb n 0 h.1, tt),
-            ),
-          ),
-        ),
-      ))
-      (λ h. (j.sized, (let z = h.1 in omega arith, (j.wide, (omega arith, (ap (λ m. marked? m (stack j.marks d)) h.1 ∙ fewer h.0, tt))))))
+      (λ h. record {
+        sized = j.sized;
+        few = let z = h.1 in omega arith;
+        wide = j.wide;
+        shallow = let z = h.0 in omega arith;
+        marked = ap (λ m. marked? n (stack j.marks m)) h.0 ∙ ap (marked? n) (stack_none j.marks) ∙ eq-eqb n 0 h.1;
+      })
+      (λ h. record {
+        sized = j.sized;
+        few = let z = h.1 in omega arith;
+        wide = j.wide;
+        shallow = omega arith;
+        marked = ap (λ m. marked? m (stack j.marks d)) h.1 ∙ fewer h.0;
+      })
       came
 
   pub close_trail : map edit_of (stack j.entries n) ≡ kept (rest (marks j)) (trail j)

@@ -132,7 +132,7 @@ none_swept s n m is =
 -- ---- a whole replace
 
 abbrev whole : ℕ → ℕ → Copying → Step (Result (Unit {0}) SessionFault)
-whole n m s = copying.replace-step n m s
+whole n m s = copying.replace_step n m s
 
 -- with records for it
 pub whole_done : (s : Copying) (n m : ℕ) → replace_fault s.program n m ≡ None → Enough s.saves s.left (length (uses s.program n)) → whole n m s ≡ to (swept n m s) (Ok tt)
