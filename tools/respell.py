@@ -11,7 +11,9 @@ import re
 import sys
 
 WORD = re.compile(r"[^\s(){}\[\],.;:@\"`⌜⌝]+")
-DECLARED = re.compile(r"^\s*(?:(?:pub|abbrev|unfoldable|record|data)\s+)*([^\s:.(){}\[\],;]*-[^\s:.(){}\[\],;]*)(?:\s+[({].*?)?\s*:(?!=)")
+DECLARED = re.compile(r"^\s*(?:(?:pub|abbrev|unfoldable|record|data)\s+)*([^\s:.(){}\[\],;]*-[^\s:.(){}\[\],;]*|[a-z]\w*[A-Z]\w*)(?:\s+[({].*?)?\s*:(?!=)")
+ALIAS = re.compile(r"\bas ([a-z]+(?:-[a-z]+)+)\b")
+MODULE_ALIAS = re.compile(r"^\s*(?:ghost )?use [\w.]+ as ([a-z]+)\b")
 FIELD = re.compile(r"^\s+pub\s+([^\s:.(){}]*-[^\s:.(){}]*)\s*:")
 LET = re.compile(r"\blet\s+([^\s:.(){}=]*-[^\s:.(){}=]*)\s*[:=]")
 GOAL = re.compile(r":\s*(?:goal|need)\.")
@@ -22,10 +24,10 @@ TAKEN = {}
 def respelled(name):
     if name in TAKEN:
         return TAKEN[name]
-    parts = [p for p in name.split("-") if p]
+    parts = [p for p in name.replace("getD", "get_or").split("-") if p]
     if name[0].isupper():
         return "".join(p[0].upper() + p[1:] for p in parts)
-    return "_".join(parts)
+    return re.sub(r"[A-Z]", lambda m: "_" + m.group(0).lower(), "_".join(parts)).replace("__", "_")
 
 
 def texts():
@@ -33,12 +35,15 @@ def texts():
 
 
 def collect():
-    names, fields = {}, set()
+    names, fields, modules = {}, set(), set()
     for path in texts():
-        if not path.endswith(".antt"):
-            continue
         with open(path, encoding="utf-8") as f:
             for number, line in enumerate(f, 1):
+                for name in ALIAS.findall(line):
+                    names.setdefault(name, []).append(f"{path}:{number}")
+                modules.update(MODULE_ALIAS.findall(line))
+                if not path.endswith(".antt"):
+                    continue
                 if line.lstrip().startswith("--"):
                     continue
                 code = line.split(" -- ")[0]
@@ -50,7 +55,7 @@ def collect():
                 m = FIELD.match(code)
                 if m:
                     fields.add(m.group(1))
-    return names, fields
+    return names, fields, modules
 
 
 def split_comment(path, line):
@@ -61,7 +66,7 @@ def split_comment(path, line):
     return (line, "") if at < 0 else (line[:at], line[at:])
 
 
-def turn(path, names, fields):
+def turn(path, names, fields, modules):
     with open(path, encoding="utf-8") as f:
         lines = f.readlines()
 
@@ -75,7 +80,7 @@ def turn(path, names, fields):
                 return word
             if m.start() > 0 and code[m.start() - 1] == ".":
                 before = re.search(r"([^\s(){}\[\],.;:]+)\.$", code[: m.start()])
-                module = before is not None and before.group(1)[0].isupper() and "." in code[: m.start() - 1]
+                module = before is not None and (before.group(1) in modules or (before.group(1)[0].isupper() and "." in code[: m.start() - 1]))
                 if word not in fields and not module:
                     return word
             return respelled(word)
@@ -86,7 +91,7 @@ def turn(path, names, fields):
 
 
 def main():
-    names, fields = collect()
+    names, fields, modules = collect()
     spelled = {}
     for name in sorted(names):
         spelled.setdefault(respelled(name), []).append(name)
@@ -98,7 +103,7 @@ def main():
             print(name, respelled(name), names[name][0])
         return
     for path in texts():
-        turn(path, names, fields)
+        turn(path, names, fields, modules)
     print(f"{len(names)} names")
 
 

@@ -1,7 +1,7 @@
 // The store's commands as values.
 ghost use Rattle.std.specs.Prelude.{◌≡◌};
 ghost use Rattle.program.specs.Commands.{verdict};
-ghost use Rattle.edits.specs.Commands.{edit_of, fault_of, after as after-edit, opposite as opposite-of};
+ghost use Rattle.edits.specs.Commands.{edit_of, fault_of, after as after_edit, opposite as opposite_of};
 
 use ir::instruction::Record;
 use program::fault::StoreFault;
@@ -20,7 +20,7 @@ pub enum Command {
 // Gives the command to a store.
 pub fn apply<S: Store>(store: &mut S, command: Command) -> Result<(), StoreFault>
     ensures answer { result ≡ verdict (fault_of (S.program store.old) (edit_of command)) }
-    ensures after { S.program store.new ≡ after-edit (S.program store.old) (edit_of command) }
+    ensures after { S.program store.new ≡ after_edit (S.program store.old) (edit_of command) }
 {
     match command {
         Command::Make(n, what) => store.make(n, what),
@@ -33,7 +33,7 @@ pub fn apply<S: Store>(store: &mut S, command: Command) -> Result<(), StoreFault
 
 // What takes a command back, told from the store before it.
 pub fn opposite<S: Store>(store: &mut S, command: Command) -> Command
-    ensures answer { edit_of result ≡ opposite-of (S.program store.old) (edit_of command) }
+    ensures answer { edit_of result ≡ opposite_of (S.program store.old) (edit_of command) }
     ensures after { S.program store.new ≡ S.program store.old }
 {
     match command {

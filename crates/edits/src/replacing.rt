@@ -3,7 +3,7 @@ ghost use Rattle.std.specs.Prelude.{◌≡◌, ◌<◌, ◌≤◌};
 ghost use Rattle.ir.specs.Instructions.{plain};
 ghost use Rattle.ir.specs.Operations.{arity};
 ghost use Rattle.program.specs.Programs.{has, operands};
-ghost use Rattle.program.specs.Faults.{unless as model-unless};
+ghost use Rattle.program.specs.Faults.{unless as model_unless};
 ghost use Rattle.edits.specs.Replace.{replace_fault, swap_at};
 
 use ir::instruction::Record;
@@ -13,7 +13,7 @@ use program::reading::{look, record_at};
 use program::store::Store;
 
 fn unless(test: bool, fault: StoreFault) -> Option<StoreFault>
-    ensures { result ≡ model-unless test fault }
+    ensures { result ≡ model_unless test fault }
 {
     if test { None } else { Some(fault) }
 }

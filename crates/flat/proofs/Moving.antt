@@ -7,7 +7,7 @@ use Rattle.program.specs.Commands.{reorder}
 use Rattle.flat.specs.declared.cells.FlatCell.{FlatCell}
 use Rattle.flat.specs.declared.cells.FlatCell.TheVariants.{Vacant, Idle, Ranked}
 use Rattle.flat.specs.FlatModel.{content, rank_of, weight, placed_count, order_of, rank_at, flat_program, rerank, Sound}
-use Rattle.flat.specs.Keeping.{getD_map_at}
+use Rattle.flat.specs.Keeping.{get_or_map_at}
 use Rattle.flat.proofs.Orders.{Ordered, order_unique, sound_from_ordered}
 
 module _ (f : ℕ → ℕ) where
@@ -57,7 +57,7 @@ module _ (f : ℕ → ℕ) (xs : List FlatCell) (n : ℕ) (x : FlatCell) (within
   rank_here = ap rank_of (get_or-set_same (map (rerank f) xs) n x Vacant long)
 
   rank_all : (m : ℕ) → rank_at (map (rerank f) xs) m ≡ option_map f (rank_at xs m)
-  rank_all m = ap rank_of (getD_map_at (rerank f) xs m Vacant) ∙ rerank_rank f (get_or xs m Vacant)
+  rank_all m = ap rank_of (get_or_map_at (rerank f) xs m Vacant) ∙ rerank_rank f (get_or xs m Vacant)
 
   pub rank_else : (m : ℕ) → m ≢ n → rank_at moved m ≡ option_map f (rank_at xs m)
   rank_else m ne = ap rank_of (get_or-set_other (map (rerank f) xs) n m x Vacant ne) ∙ rank_all m
@@ -73,7 +73,7 @@ module _ (f : ℕ → ℕ) (xs : List FlatCell) (n : ℕ) (x : FlatCell) (within
   contents_moved same =
       map-set content (map (rerank f) xs) n x
       ∙ ap (λ cs. set cs n (content x)) (rerank_contents f xs)
-      ∙ ap (λ c. set (map content xs) n c) (same ∙ sym (getD_map_at content xs n Vacant))
+      ∙ ap (λ c. set (map content xs) n c) (same ∙ sym (get_or_map_at content xs n Vacant))
       ∙ set-get_or (map content xs) n None
 
   module _ (o : List ℕ) (is : Ordered moved o) where

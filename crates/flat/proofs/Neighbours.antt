@@ -6,7 +6,7 @@ use Rattle.std.proofs.lemmas.Bool.{cases_lt}
 use Rattle.program.specs.Programs.{index_of}
 use Rattle.flat.specs.declared.cells.FlatCell.{FlatCell}
 use Rattle.flat.specs.FlatModel.{placed_count, find_rank, order_of, Sound}
-use Rattle.flat.specs.Keeping.{find_holds, length_order, getD_order}
+use Rattle.flat.specs.Keeping.{find_holds, length_order, get_or_order}
 use Rattle.flat.proofs.Orders.{index_bound}
 use Rattle.flat.proofs.Loops.{order_small}
 
@@ -17,7 +17,7 @@ module _ (xs : List FlatCell) (s : Sound xs) where
       let f : find_rank j xs < length xs = omega arith in
       let low : j < placed_count xs = s.low (find_rank j xs) j (find_holds j xs f) in
       let k : j < length (order_of xs) = omega arith in
-      ap Some (sym e) ∙ sym (slice_get-get_or (order_of xs) j 0 k ∙ ap Some (getD_order xs j low))
+      ap Some (sym e) ∙ sym (slice_get-get_or (order_of xs) j 0 k ∙ ap Some (get_or_order xs j low))
 
   pub nth_missing : (j : ℕ) → length xs ≤ find_rank j xs → None ≡ slice_get (order_of xs) j
   nth_missing j h =

@@ -6,7 +6,7 @@ use Rattle.program.specs.Programs.{index_of}
 use Rattle.flat.specs.declared.cells.FlatCell.{FlatCell}
 use Rattle.flat.specs.declared.cells.FlatCell.TheVariants.{Vacant}
 use Rattle.flat.specs.FlatModel.{rank_of, is_rank, placed_count, find_rank, order_of, rank_at, Sound}
-use Rattle.flat.specs.Keeping.{find_holds, length_order, getD_order, order_ranks}
+use Rattle.flat.specs.Keeping.{find_holds, length_order, get_or_order, order_ranks}
 
 -- ---- the first number of a rank
 
@@ -63,7 +63,7 @@ ordered_from_sound cells s =
     record {
       count = len;
       low = λ n r e. let h = s.low n r e in omega arith;
-      ranked = λ n r e. getD_order cells r (s.low n r e) ∙ s.apart n r e;
+      ranked = λ n r e. get_or_order cells r (s.low n r e) ∙ s.apart n r e;
       placed = order_ranks cells s.filled;
     }
 
@@ -80,7 +80,7 @@ module _ (cells : List FlatCell) (o : List ℕ) (is : Ordered cells o) where
       let len = length_order cells in
       let c = is.count in
       ext_get_or 0 (order_of cells) o (len ∙ sym c)
-      (λ j h. let k : j < placed_count cells = omega arith in getD_order cells j k ∙ find_at j (get_or o j 0) (is.placed j (omega arith)))
+      (λ j h. let k : j < placed_count cells = omega arith in get_or_order cells j k ∙ find_at j (get_or o j 0) (is.placed j (omega arith)))
 
   pub sound_from_ordered : length cells ≤ 1024 → Sound cells
   sound_from_ordered few =

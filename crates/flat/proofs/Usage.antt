@@ -11,7 +11,7 @@ use Rattle.program.specs.Uses.{uses_at, uses_by, uses_from, unused, beyond, leas
 use Rattle.flat.specs.declared.cells.FlatCell.{FlatCell}
 use Rattle.flat.specs.declared.cells.FlatCell.TheVariants.{Vacant}
 use Rattle.flat.specs.FlatModel.{content, one_use}
-use Rattle.flat.specs.Keeping.{getD_map_at}
+use Rattle.flat.specs.Keeping.{get_or_map_at}
 
 -- ---- one instruction
 
@@ -114,7 +114,7 @@ module _ (v : ℕ) (xs : List FlatCell) where
         let cs : List Cell = map content xs in
         let l = length-map xs content in
         let k : i < length cs = omega arith in
-        let at : get_or cs i None ≡ content x = getD_map_at content xs i Vacant ∙ ap content (sym (get_or_read xs i x h e Vacant)) in
+        let at : get_or cs i None ≡ content x = get_or_map_at content xs i Vacant ∙ ap content (sym (get_or_read xs i x h e Vacant)) in
         at_drop_more (uses_from v i) cs i None k ∙ ap (λ c. uses_by v i c ++ rest (i + 1)) at
 
     pub count_step : length (rest i) ≡ length (uses_by v i (content x)) + length (rest (i + 1))

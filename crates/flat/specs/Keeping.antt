@@ -28,15 +28,15 @@ find_holds j (c ∷ cs) h =
 pub length_order : (cells : List FlatCell) → length (order_of cells) ≡ placed_count cells
 length_order cells = length-map-range_with_len (λ j. find_rank j cells) 0 (placed_count cells)
 
-pub getD_order : (cells : List FlatCell) (j : ℕ) → j < placed_count cells → slice_index (order_of cells) j ≡ find_rank j cells
-getD_order cells j h = get_or-map-range_with_len (λ i. find_rank i cells) 0 (placed_count cells) j j 0 h (zero-add j)
+pub get_or_order : (cells : List FlatCell) (j : ℕ) → j < placed_count cells → slice_index (order_of cells) j ≡ find_rank j cells
+get_or_order cells j h = get_or-map-range_with_len (λ i. find_rank i cells) 0 (placed_count cells) j j 0 h (zero-add j)
 
 -- the number at a place of the order has that rank
 pub order_ranks : (cells : List FlatCell) → Filled cells → (j : ℕ) → j < length (order_of cells) → rank_at cells (slice_index (order_of cells) j) ≡ Some j
 order_ranks cells filled j h =
     let l = length_order cells in
     let k : j < placed_count cells = omega arith in
-    ap (rank_at cells) (getD_order cells j k) ∙ find_holds j cells (filled j k)
+    ap (rank_at cells) (get_or_order cells j k) ∙ find_holds j cells (filled j k)
 
 -- ---- places of a list
 
@@ -57,13 +57,13 @@ distinct_from (x ∷ xs) f = (
 
 -- ---- cells
 
-pub getD_map_at : {X Y : Type 0} (f : X → Y) (xs : List X) (n : ℕ) (d : X) → slice_index_or (map f xs) n (f d) ≡ f (slice_index_or xs n d)
-getD_map_at f [] n d = refl
-getD_map_at f (x ∷ xs) zero d = refl
-getD_map_at f (x ∷ xs) (suc n) d = getD_map_at f xs n d
+pub get_or_map_at : {X Y : Type 0} (f : X → Y) (xs : List X) (n : ℕ) (d : X) → slice_index_or (map f xs) n (f d) ≡ f (slice_index_or xs n d)
+get_or_map_at f [] n d = refl
+get_or_map_at f (x ∷ xs) zero d = refl
+get_or_map_at f (x ∷ xs) (suc n) d = get_or_map_at f xs n d
 
 pub cell_flat : (cells : List FlatCell) (n : ℕ) → cell (flat_program cells) n ≡ content (slice_index_or cells n Vacant)
-cell_flat cells n = getD_map_at content cells n Vacant
+cell_flat cells n = get_or_map_at content cells n Vacant
 
 ranked_busy : (c : FlatCell) (k : ℕ) → rank_of c ≡ Some k → busy (content c) ≡ true
 ranked_busy Vacant k e = let z : ◌≡◌ {A = ℕ} 0 1 = cc in absurd (omega arith)

@@ -12,7 +12,7 @@ use Rattle.program.specs.declared.fault.StoreFault.{StoreFault}
 use Rattle.program.specs.declared.fault.StoreFault.TheVariants.{OutOfRange, WrongState, StillUsed, BadAnchor}
 use Rattle.program.specs.declared.state.State.{State}
 use Rattle.program.specs.declared.state.State.TheVariants.{Free, Loose, Placed as IsPlaced}
-use Rattle.program.specs.Programs.{Program, program_of, cell, busy, held, at as instruction-at, has, index_of, within, operands, is_free, is_loose, is_placed, state_of}
+use Rattle.program.specs.Programs.{Program, program_of, cell, busy, held, at as instruction_at, has, index_of, within, operands, is_free, is_loose, is_placed, state_of}
 use Rattle.program.specs.Uses.{uses_from, unused, least_beyond}
 use Rattle.program.specs.Faults.{range_fault, ranges_fault, first_fault, operand_fault, make_fault, rewrite_fault, unmake_fault, link_fault, placed_fault, busy_fault, anchor_range, anchor_fault, unless, when}
 use Rattle.program.specs.Commands.{put, anchor_place}
@@ -96,7 +96,7 @@ module _ (xs : List LinkedCell) (f n : ℕ) where
       ∙ sym (busy_state (cell p n) (has n p.order))
       ∙ unless_none test (WrongState n) (or_right_none (range_fault p n) (unless test (WrongState n)) e)
 
-  pub body_held : (b : Body) → b ≡ get_or (bodies xs) n Vacant → held (content b) ≡ instruction-at (linked_program xs f) n
+  pub body_held : (b : Body) → b ≡ get_or (bodies xs) n Vacant → held (content b) ≡ instruction_at (linked_program xs f) n
   body_held b e = ap (λ d. held (content d)) e ∙ sym (ap held (cell_linked xs f n))
 
 module _ (xs : List LinkedCell) (f l : ℕ) (is : Linked xs f l) where

@@ -31,10 +31,10 @@ pub out_has : (n : ℕ) (xs : List ℕ) → (In n xs → ⊥) → has n xs ≡ f
 out_has n xs d =
     ⊎_elim (λ l. absurd (d (index_in n xs l))) (λ l. le-ltb (index_of n xs) (length xs) l) (cases_lt (index_of n xs) (length xs))
 
-pub getD_in : (xs : List ℕ) (k : ℕ) → k < length xs → In (get_or xs k 0) xs
-getD_in [] k h = absurd (omega arith)
-getD_in (x ∷ xs) zero h = inl refl
-getD_in (x ∷ xs) (suc k) h = inr (getD_in xs k (omega arith))
+pub get_or_in : (xs : List ℕ) (k : ℕ) → k < length xs → In (get_or xs k 0) xs
+get_or_in [] k h = absurd (omega arith)
+get_or_in (x ∷ xs) zero h = inl refl
+get_or_in (x ∷ xs) (suc k) h = inr (get_or_in xs k (omega arith))
 
 -- a number stands at its place, and in a list without repeats at no other
 pub index_holds : (n : ℕ) (xs : List ℕ) → index_of n xs < length xs → get_or xs (index_of n xs) 0 ≡ n
@@ -44,8 +44,8 @@ index_holds n (x ∷ xs) h =
     = elim [ true ↦ (λ e l. eqb-true x n e) | false ↦ (λ e l. index_holds n xs (omega arith)) ]
     in by_test (eqb x n) refl h
 
-pub index_getD : (xs : List ℕ) → Distinct xs → (k : ℕ) → k < length xs → index_of (get_or xs k 0) xs ≡ k
-index_getD [] d k h = absurd (omega arith)
-index_getD (x ∷ xs) d zero h = ap (λ b. cond b 0 (suc (index_of x xs))) (eq-eqb x x refl)
-index_getD (x ∷ xs) d (suc k) h =
-    index_other (get_or xs k 0) x xs (λ e. d.0 (rw e (getD_in xs k (omega arith)))) ∙ ap suc (index_getD xs d.1 k (omega arith))
+pub index_get_or : (xs : List ℕ) → Distinct xs → (k : ℕ) → k < length xs → index_of (get_or xs k 0) xs ≡ k
+index_get_or [] d k h = absurd (omega arith)
+index_get_or (x ∷ xs) d zero h = ap (λ b. cond b 0 (suc (index_of x xs))) (eq-eqb x x refl)
+index_get_or (x ∷ xs) d (suc k) h =
+    index_other (get_or xs k 0) x xs (λ e. d.0 (rw e (get_or_in xs k (omega arith)))) ∙ ap suc (index_get_or xs d.1 k (omega arith))

@@ -3,7 +3,7 @@ ghost use Rattle.std.specs.Prelude.{◌≡◌, ℕ, Bool, not, Option as Maybe};
 ghost use Rattle.ir.specs.Instructions.{plain};
 ghost use Rattle.program.specs.Programs.{Program, operands};
 ghost use Rattle.program.specs.Uses.{uses, unused};
-ghost use Rattle.program.specs.Faults.{unless as model-unless, when as model-when, range_fault, operand_fault, ranges_fault, first_fault, anchor_range, anchor_fault, make_fault, rewrite_fault, link_fault, placed_fault, unmake_fault, busy_fault};
+ghost use Rattle.program.specs.Faults.{unless as model_unless, when as model_when, range_fault, operand_fault, ranges_fault, first_fault, anchor_range, anchor_fault, make_fault, rewrite_fault, link_fault, placed_fault, unmake_fault, busy_fault};
 ghost use Rattle.program.specs.Known.{Right, RightAnchor};
 
 use crate::fault::StoreFault;
@@ -19,13 +19,13 @@ pub struct Known {
 }
 
 fn unless(test: bool, fault: StoreFault) -> Option<StoreFault>
-    ensures { result ≡ model-unless test fault }
+    ensures { result ≡ model_unless test fault }
 {
     if test { None } else { Some(fault) }
 }
 
 fn when(test: bool, fault: Option<StoreFault>) -> Option<StoreFault>
-    ensures { result ≡ model-when test fault }
+    ensures { result ≡ model_when test fault }
 {
     if test { fault } else { None }
 }

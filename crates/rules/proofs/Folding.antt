@@ -13,7 +13,7 @@ use Rattle.program.proofs.Uses.{unused_none}
 use Rattle.program.proofs.Keeping.{never_read}
 use Rattle.runs.specs.Runs.{out?, arg, value}
 use Rattle.runs.proofs.Valuations.{value_cong}
-use Rattle.rules.specs.Rules.{nothing, vanish, drop_for, become, code_of, sameRec, constant?, known, all_known, dead, fold, twin_in, twin}
+use Rattle.rules.specs.Rules.{nothing, vanish, drop_for, become, code_of, same_rec, constant?, known, all_known, dead, fold, twin_in, twin}
 use Rattle.rules.specs.Laws.{Sound}
 use Rattle.rules.proofs.Words.{instr_word, constant_word, value_closed}
 use Rattle.rules.proofs.Valid.{Valid}
@@ -48,7 +48,7 @@ module _ (i j : Instr) where
   abbrev same_op : Bool
   same_op = eqb (code_of i.op) (code_of j.op)
 
-  same_record : sameRec i j ≡ true → i ≡ j
+  same_record : same_rec i j ≡ true → i ≡ j
   same_record e =
       let e4 = and_parts (same_op && eqb i.literal j.literal && eqb i.a j.a && eqb i.b j.b) (eqb i.c j.c) e in
       let e3 = and_parts (same_op && eqb i.literal j.literal && eqb i.a j.a) (eqb i.b j.b) e4.0 in
@@ -117,11 +117,11 @@ module _ (p : Program) (n : ℕ) (s : Sound p) (i : In n p.order) where
       (ks : List ℕ) → out? (at p n).op ≡ false → In n ks → ((k : ℕ) → Before k n ks → Before k n p.order) → Valid p n (twin_in p n ks)
   twin_from [] q h g = tt
   twin_from (k ∷ ks) q h g =
-      cond_both (eqb k n) nothing (cond (sameRec (at p k) (at p n)) (drop_for k) (twin_in p n ks)) (Valid p n) (λ t. tt)
+      cond_both (eqb k n) nothing (cond (same_rec (at p k) (at p n)) (drop_for k) (twin_in p n ks)) (Valid p n) (λ t. tt)
       (λ t.
       let rest : In n ks = ⊎_elim (λ z. absurd (eqb-false k n t z)) (λ z. z) h in
       let first : Before k n p.order = g k (inl (refl, rest)) in
-      cond_both (sameRec (at p k) (at p n)) (drop_for k) (twin_in p n ks) (Valid p n)
+      cond_both (same_rec (at p k) (at p n)) (drop_for k) (twin_in p n ks) (Valid p n)
       (λ e. (
         q,
         first,

@@ -73,8 +73,8 @@ code_of Shift = 11
 code_of Out = 12
 
 -- two records are equal
-abbrev pub sameRec : Instr → Instr → Bool
-sameRec i j =
+abbrev pub same_rec : Instr → Instr → Bool
+same_rec i j =
     (code_of i.op == code_of j.op) && i.literal == j.literal && i.a == j.a && i.b == j.b && i.c == j.c
 
 -- the operation is the constant
@@ -148,7 +148,7 @@ fixed_by p i Out = nothing
 -- the first number before n in a list that has the record of n
 abbrev pub twin_in : Program → ℕ → List ℕ → Change
 twin_in p n [] = nothing
-twin_in p n (m ∷ ms) = cond (m == n) nothing (cond (sameRec (at p m) (at p n)) (drop_for m) (twin_in p n ms))
+twin_in p n (m ∷ ms) = cond (m == n) nothing (cond (same_rec (at p m) (at p n)) (drop_for m) (twin_in p n ms))
 
 -- 5: what is no out gives way to the first instruction before it with an equal record
 abbrev pub twin : Program → ℕ → Change

@@ -1,6 +1,6 @@
 // Rule 2, over any store: which change it makes at a number.
 ghost use Rattle.std.specs.Prelude.{◌≡◌};
-ghost use Rattle.rules.specs.Rules.{fold as model-fold};
+ghost use Rattle.rules.specs.Rules.{fold as model_fold};
 ghost use Rattle.rules.specs.Changes.{change_of, known_literal};
 
 use crate::change::Change;
@@ -27,7 +27,7 @@ fn known<S: Store>(store: &mut S, present: bool, m: u32) -> Option<u32>
 
 // Rule 2: an operation on constants becomes the constant of its value.
 pub fn fold<S: Store>(store: &mut S, n: u32) -> Change
-    ensures answer { change_of result ≡ model-fold (S.program store.old) n }
+    ensures answer { change_of result ≡ model_fold (S.program store.old) n }
     ensures after { S.program store.new ≡ S.program store.old }
 {
     let what = record_at(store, n);

@@ -3,7 +3,7 @@ ghost use Rattle.std.specs.Prelude.{◌≡◌, if◌then◌else◌};
 ghost use Rattle.ir.specs.Instructions.{plain};
 ghost use Rattle.program.specs.Uses.{uses, unused};
 ghost use Rattle.runs.specs.Runs.{out?};
-ghost use Rattle.rules.specs.Rules.{nothing, drop_for, constant?, is as model_is, by_op, dead as model-dead, zero_if, fixed_by, neutral as model-neutral, same_by};
+ghost use Rattle.rules.specs.Rules.{nothing, drop_for, constant?, is as model_is, by_op, dead as model_dead, zero_if, fixed_by, neutral as model_neutral, same_by};
 ghost use Rattle.rules.specs.Changes.{change_of};
 
 use crate::change::Change;
@@ -37,7 +37,7 @@ fn is_unused<S: Store>(store: &mut S, n: u32) -> bool
 
 // Rule 1: what is no out and has no uses goes.
 pub fn dead<S: Store>(store: &mut S, n: u32) -> Change
-    ensures answer { change_of result ≡ model-dead (S.program store.old) n }
+    ensures answer { change_of result ≡ model_dead (S.program store.old) n }
     ensures after { S.program store.new ≡ S.program store.old }
 {
     let what = record_at(store, n);
@@ -72,7 +72,7 @@ fn drop_if(test: bool, y: u32) -> Change
 
 // The other operand, where one of two is the constant x; b is looked at first.
 fn neutral<S: Store>(store: &mut S, x: u32, a: u32, b: u32) -> Change
-    ensures answer { change_of result ≡ model-neutral (S.program store.old) x a b }
+    ensures answer { change_of result ≡ model_neutral (S.program store.old) x a b }
     ensures after { S.program store.new ≡ S.program store.old }
 {
     if is(store, b, x) {

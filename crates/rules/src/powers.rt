@@ -1,7 +1,7 @@
 // Rule 6, over any store: which change it makes at a number.
 ghost use Rattle.std.specs.Prelude.{◌≡◌, ◌<◌, ◌≤◌};
 ghost use Rattle.ir.specs.Instructions.{plain};
-ghost use Rattle.rules.specs.Rules.{log_to, log as model-log, shift_of, shift_by, by_op, power_by};
+ghost use Rattle.rules.specs.Rules.{log_to, log as model_log, shift_of, shift_by, by_op, power_by};
 ghost use Rattle.rules.specs.Changes.{change_of};
 
 use crate::change::Change;
@@ -26,7 +26,7 @@ fn log_to(x: u32, limit: u32) -> u32
 
 // The k from 1 to 31 where a number is the constant 2 ^ k, and else 0.
 fn log<S: Store>(store: &mut S, m: u32) -> u32
-    ensures answer { result ≡ model-log (S.program store.old) m }
+    ensures answer { result ≡ model_log (S.program store.old) m }
     ensures below { result < 32 }
     ensures after { S.program store.new ≡ S.program store.old }
 {

@@ -3,7 +3,7 @@ ghost use Rattle.std.specs.Prelude.{◌≡◌, Some};
 ghost use Rattle.ir.specs.Instructions.{plain};
 ghost use Rattle.program.specs.Programs.{In};
 ghost use Rattle.runs.specs.Walks.{from, Stands, Step};
-ghost use Rattle.rules.specs.Rules.{code_of, sameRec, twin as model-twin};
+ghost use Rattle.rules.specs.Rules.{code_of, same_rec, twin as model_twin};
 ghost use Rattle.rules.specs.Changes.{change_of};
 
 use crate::change::Change;
@@ -20,7 +20,7 @@ fn code(op: Op) -> u32
 }
 
 fn same_record(x: Record, y: Record) -> bool
-    ensures { result ≡ sameRec (plain x) (plain y) }
+    ensures { result ≡ same_rec (plain x) (plain y) }
 {
     (code(x.op) == code(y.op))
         & (x.literal == y.literal)
@@ -50,7 +50,7 @@ fn visit<S: Store>(store: &mut S, m: u32) -> (Record, Option<u32>)
 
 // Rule 5: what is no out gives way to the first instruction before it with an equal record.
 pub fn twin<S: Store>(store: &mut S, n: u32) -> Change
-    ensures answer { change_of result ≡ model-twin (S.program store.old) n }
+    ensures answer { change_of result ≡ model_twin (S.program store.old) n }
     ensures after { S.program store.new ≡ S.program store.old }
 {
     let what = record_at(store, n);

@@ -9,20 +9,20 @@ use Rattle.ir.specs.Instructions.{plain}
 use Rattle.program.specs.Programs.{Program, size, at, index_of, In, Distinct}
 use Rattle.program.specs.Readings.{first_of, next_of}
 use Rattle.program.specs.Proper.{Proper}
-use Rattle.program.proofs.Places.{in_index, index_holds, index_getD, getD_in}
+use Rattle.program.proofs.Places.{in_index, index_holds, index_get_or, get_or_in}
 use Rattle.program.proofs.Accepting.{busy_inside}
 use Rattle.runs.specs.Walks.{from, Stands, Step}
 
 nth_stands : (ns : List ℕ) (k : ℕ) → Stands (slice_get ns k) ns
 nth_stands ns k =
-    ⊎_elim (λ h. subst (λ o. Stands o ns) (sym (slice_get-get_or ns k 0 h)) (getD_in ns k h))
+    ⊎_elim (λ h. subst (λ o. Stands o ns) (sym (slice_get-get_or ns k 0 h)) (get_or_in ns k h))
     (λ h. subst (λ o. Stands o ns) (sym (slice_get_past ns k h)) tt) (cases_lt k (length ns))
 
 module _ (ns : List ℕ) (d : Distinct ns) where
   from_nth : (k : ℕ) → from (slice_get ns k) ns ≡ drop k ns
   from_nth k =
       ⊎_elim
-      (λ h. ap (λ o. from o ns) (slice_get-get_or ns k 0 h) ∙ ap (λ j. drop j ns) (index_getD ns d k h))
+      (λ h. ap (λ o. from o ns) (slice_get-get_or ns k 0 h) ∙ ap (λ j. drop j ns) (index_get_or ns d k h))
       (λ h. ap (λ o. from o ns) (slice_get_past ns k h) ∙ sym (drop_all k ns h)) (cases_lt k (length ns))
 
   from_more : (n : ℕ) → In n ns → from (Some n) ns ≡ n ∷ from (slice_get ns (index_of n ns + 1)) ns

@@ -2,7 +2,7 @@
 ghost use Rattle.std.specs.Prelude.{◌≡◌, ◌≤◌, length, Ok};
 ghost use Rattle.ir.specs.Instructions.{plain};
 ghost use Rattle.program.specs.Programs.{at, size, WellFormed};
-ghost use Rattle.runs.specs.Prices.{stamp_of, price as model-price};
+ghost use Rattle.runs.specs.Prices.{stamp_of, price as model_price};
 ghost use Rattle.runs.specs.Form.{FormLaw};
 ghost use Rattle.runs.specs.Answers.{price_answer, scratch_fault, counted, either, zeros};
 ghost use Rattle.runs.specs.Scratch.{word_at, price_words, stamps_left};
@@ -52,7 +52,7 @@ pub fn price_again<S: Store, M: CostModel>(
 ) -> Result<u32, RunFault>
     ensures answer { result ≡ counted (scratch_fault (S.program store.old) (length words.old)) (price_words M.costing (at (S.program store.old)) 0 words.old (S.program store.old).order) }
     ensures words { words.new ≡ either (scratch_fault (S.program store.old) (length words.old)) (stamps_left M.costing (at (S.program store.old)) words.old (S.program store.old).order) words.old }
-    ensures formed { WellFormed (S.program store.old) → size (S.program store.old) ≤ length words.old → result ≡ Ok (model-price M.costing (S.program store.old)) }
+    ensures formed { WellFormed (S.program store.old) → size (S.program store.old) ≤ length words.old → result ≡ Ok (model_price M.costing (S.program store.old)) }
     ensures after { S.program store.new ≡ S.program store.old }
 {
     let size = store.size();

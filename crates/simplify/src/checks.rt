@@ -2,8 +2,8 @@
 ghost use Rattle.program.specs.Readings.{answered};
 ghost use Rattle.program.specs.Faults.{placed_fault};
 ghost use Rattle.std.specs.Prelude.{length};
-ghost use Rattle.runs.specs.Prices.{price as price-of};
-ghost use Rattle.rules.specs.Trials.{need as need-of};
+ghost use Rattle.runs.specs.Prices.{price as price_of};
+ghost use Rattle.rules.specs.Trials.{need as need_of};
 ghost use Rattle.session.specs.Meaning.{Read, Told};
 ghost use Rattle.simplify.specs.Steps.{depth_fault, records_fault, trial_fault, pass_fault};
 ghost use Rattle.simplify.specs.Working.{checked, priced};
@@ -17,7 +17,7 @@ use session::session::Session;
 
 // The records that a trial at a placed number needs.
 pub(crate) fn need_at<S: Store, M>(session: &mut Session<S, M>, n: u32) -> Result<u32, StoreFault>
-    ensures { Read S.program (λ p. answered (placed_fault p n) (need-of p n)) session.old session.new result }
+    ensures { Read S.program (λ p. answered (placed_fault p n) (need_of p n)) session.old session.new result }
 {
     session.next(n)?;
     let count = session.count_uses(n)?;
@@ -54,7 +54,7 @@ pub(crate) fn check_trial<S: Store, M: CostModel>(
     n: u32,
     words: &mut [u32],
 ) -> Result<u32, SimplifyFault>
-    ensures { Told S.program (λ s. priced (trial_fault n (length words.old) s) (price-of M.costing s.program)) session.old session.new result }
+    ensures { Told S.program (λ s. priced (trial_fault n (length words.old) s) (price_of M.costing s.program)) session.old session.new result }
 {
     let need = need_at(session, n)?;
     check_depth(session, 7)?;
@@ -67,7 +67,7 @@ pub(crate) fn check_pass<S: Store, M: CostModel>(
     session: &mut Session<S, M>,
     words: &mut [u32],
 ) -> Result<u32, SimplifyFault>
-    ensures { Told S.program (λ s. priced (pass_fault (length words.old) s) (price-of M.costing s.program)) session.old session.new result }
+    ensures { Told S.program (λ s. priced (pass_fault (length words.old) s) (price_of M.costing s.program)) session.old session.new result }
 {
     check_depth(session, 6)?;
     Ok(session.price(words)?)

@@ -3,8 +3,8 @@ ghost use Rattle.std.specs.Prelude.{◌≡◌, suc, ◌<◌, length};
 ghost use Rattle.std.specs.Result.{result_map_both};
 ghost use Rattle.program.specs.Programs.{In};
 ghost use Rattle.program.specs.Readings.{previous_of};
-ghost use Rattle.runs.specs.Prices.{price as price-of};
-ghost use Rattle.rules.specs.Trials.{tally as tally-of, spared_round, rounds as rounds-of};
+ghost use Rattle.runs.specs.Prices.{price as price_of};
+ghost use Rattle.rules.specs.Trials.{tally as tally_of, spared_round, rounds as rounds_of};
 ghost use Rattle.session.specs.Meaning.{meaning, Grown};
 ghost use Rattle.simplify.specs.Working.{TriedOrShort, Going, Came};
 ghost use Rattle.simplify.specs.Rounds.{kept_in, Priced};
@@ -38,7 +38,7 @@ fn before<S: Store, M>(session: &mut Session<S, M>, n: u32) -> Option<u32>
 // One more if a rule was kept.
 fn tally(kept: u32, rule: u32) -> u32
     requires { kept < 4294967295 }
-    ensures { result ≡ tally-of rule kept }
+    ensures { result ≡ tally_of rule kept }
 {
     if rule == 0 { kept } else { kept + 1 }
 }
@@ -91,7 +91,7 @@ pub(crate) fn make_rounds<S: Store, M: CostModel>(
     words: &mut [u32],
 ) -> Result<u32, SimplifyFault>
     requires { Going M.costing (length words.old) price (meaning S.program session.old) }
-    ensures came { Came (rounds-of M.costing (suc (meaning S.program session.old).left) (S.program session.old.store) (meaning S.program session.old).left) (meaning S.program session.old) (meaning S.program session.new) result }
+    ensures came { Came (rounds_of M.costing (suc (meaning S.program session.old).left) (S.program session.old.store) (meaning S.program session.old).left) (meaning S.program session.old) (meaning S.program session.new) result }
     ensures grown { Grown session.old.journal session.new.journal }
 {
     let mut total = 0;

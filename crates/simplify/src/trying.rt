@@ -1,7 +1,7 @@
 // The six rules tried at a number, each under a save of its own.
 ghost use Rattle.std.specs.Prelude.{◌≡◌, ◌≤◌, length, if◌then◌else◌, Some, None, nat_lt};
 ghost use Rattle.program.specs.Programs.{size};
-ghost use Rattle.runs.specs.Prices.{price as price-of};
+ghost use Rattle.runs.specs.Prices.{price as price_of};
 ghost use Rattle.rules.specs.Changes.{rule_at};
 ghost use Rattle.rules.specs.Laws.{Sound};
 ghost use Rattle.session.specs.Meaning.{meaning, Read, Grown};
@@ -27,7 +27,7 @@ fn lower_price<S: Store, M: CostModel>(
     words: &mut [u32],
 ) -> Option<u32>
     requires { (Sound (S.program session.old.store)) × (size (S.program session.old.store) ≤ length words.old) }
-    ensures { Read S.program (λ p. (if nat_lt (price-of M.costing p) old then Some (price-of M.costing p) else None)) session.old session.new result }
+    ensures { Read S.program (λ p. (if nat_lt (price_of M.costing p) old then Some (price_of M.costing p) else None)) session.old session.new result }
 {
     match session.price_again(words) {
         Ok(price) if price < old => Some(price),
