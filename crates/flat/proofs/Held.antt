@@ -11,7 +11,7 @@ use Rattle.flat.specs.Keeping.{proper_flat}
 
 -- the ghost fields, in their order
 abbrev Fields : List FlatCell → Type 0
-Fields xs = record {few : length xs ≤ 1024; filled : Filled xs; low : Low xs; apart : Apart xs; tied : Tied (flat_program xs)}
+Fields xs = record { few : length xs ≤ 1024; filled : Filled xs; low : Low xs; apart : Apart xs; tied : Tied (flat_program xs) }
 
 pub fields : (xs : List FlatCell) → Sound xs → (p : Program) → flat_program xs ≡ p → Proper p → Fields xs
 fields xs s p e t = record { few = s.few; filled = s.filled; low = s.low; apart = s.apart; tied = tied_test (flat_program xs) (subst Proper (sym e) t) }

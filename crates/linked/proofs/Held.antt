@@ -17,7 +17,7 @@ use Rattle.linked.proofs.Ordering.{ranged_reads}
 
 -- the ghost fields, in their order
 abbrev Fields : List LinkedCell → ℕ → ℕ → Type 0
-Fields xs f l = record {few : length xs ≤ 1024; forward : Forward xs f; backward : Backward xs f l; marked : Marked xs f; strung : Strung xs; tied : Tied (linked_program xs f)}
+Fields xs f l = record { few : length xs ≤ 1024; forward : Forward xs f; backward : Backward xs f l; marked : Marked xs f; strung : Strung xs; tied : Tied (linked_program xs f) }
 
 pub fields : (xs : List LinkedCell) (f l : ℕ) → Sound xs f l → (p : Program) → linked_program xs f ≡ p → Proper p → Fields xs f l
 fields xs f l s p e t =

@@ -27,7 +27,7 @@ fn stamp_of<M: CostModel>(words: &[u32], what: Record) -> u32
 }
 
 // The price of the program over words that hold anything.
-fn walk_price<S: Store, M: CostModel>(store: &mut S, words: &mut [u32]) -> u32
+pub(crate) fn walk_price<S: Store, M: CostModel>(store: &mut S, words: &mut [u32]) -> u32
     requires { size (S.program store.old) ≤ length words.old }
     ensures answer { result ≡ price_words M.costing (at (S.program store.old)) 0 words.old (S.program store.old).order }
     ensures words { words.new ≡ stamps_left M.costing (at (S.program store.old)) words.old (S.program store.old).order }

@@ -22,7 +22,7 @@ marks_length j = let f = j.shallow in let s = j.wide in length_stack j.marks j.d
 
 -- the ghost fields, in their order
 abbrev pub Fields : List Command → ℕ → List Mark → ℕ → Type 0
-Fields es n ms d = record {sized : length es ≡ 512; few : n ≤ 512; wide : length ms ≡ 8; shallow : d ≤ 8; marked : marked? n (stack ms d) ≡ true}
+Fields es n ms d = record { sized : length es ≡ 512; few : n ≤ 512; wide : length ms ≡ 8; shallow : d ≤ 8; marked : marked? n (stack ms d) ≡ true }
 
 -- no record, and no mark
 pub none_noted : (es : List Command) → map edit_of (stack es 0) ≡ []
