@@ -1,6 +1,6 @@
 -- An ascending list of pairs is known by what is in it.
 use Rattle.std.proofs.Common.{◌≡◌, ℕ, List, [], ◌∷◌, sym, refl, ap, ◌∙◌, inl, inr, ⊎_elim, arith}
-use Rattle.std.specs.List.{AllByRecursion as All}
+use Rattle.std.specs.List.{AllByRecursion}
 use Rattle.program.specs.Uses.{Precedes, Ascending, Among}
 use Rattle.program.proofs.Uses.{all_among}
 
@@ -12,7 +12,7 @@ not_both : (x y : ℕ × ℕ) → Precedes x y → Precedes y x → ⊥
 not_both x y h g = ⊎_elim (λ a. ⊎_elim (λ b. omega arith) (λ b. omega arith) g) (λ a. ⊎_elim (λ b. omega arith) (λ b. omega arith) g) h
 
 behind :
-    (x y : ℕ × ℕ) (xs ys : List (ℕ × ℕ)) → All (Precedes x) xs → x ≡ y → ((z : ℕ × ℕ) → Among z (x ∷ xs) → Among z (y ∷ ys))
+    (x y : ℕ × ℕ) (xs ys : List (ℕ × ℕ)) → AllByRecursion (Precedes x) xs → x ≡ y → ((z : ℕ × ℕ) → Among z (x ∷ xs) → Among z (y ∷ ys))
     → (z : ℕ × ℕ) → Among z xs → Among z ys
 behind x y xs ys a s f z h = ⊎_elim (λ e. absurd (not_itself x z (all_among (Precedes x) z xs a h) (s ∙ e))) (λ q. q) (f z (inr h))
 

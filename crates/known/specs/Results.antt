@@ -1,6 +1,6 @@
 -- Results that anyone can work out by hand.
 use Rattle.std.specs.Prelude.{◌≡◌, ℕ, List, [], ◌∷◌, Some, None}
-use Rattle.std.specs.List.{AllByRecursion as All}
+use Rattle.std.specs.List.{AllByRecursion}
 use Rattle.ir.specs.declared.operation.Op.TheVariants.{Constant, Input, Add, Subtract, Multiply, Shift, Out}
 use Rattle.ir.specs.Instructions.{Instr, constant_of}
 use Rattle.ir.specs.Values.{value_of}
@@ -35,6 +35,6 @@ results =
 
 -- the table holds; the trial that answers 6 makes the product a shift; and a pass over an empty program answers 0, under any cost model and with any number of records left
 pub record KnownResults : Type 0 where
-  pub table : All (λ r. r.0 ≡ r.1) results
+  pub table : AllByRecursion (λ r. r.0 ≡ r.1) results
   pub becomes : (trial by_delay product 3).0 ≡ shifted
   pub empty : (c : Costing) (size left : ℕ) → spared_pass c (new_program size) left ≡ did (new_program size) left 0

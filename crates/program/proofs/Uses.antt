@@ -1,7 +1,7 @@
 -- Lists of uses: they ascend, have every use and no other, and are read from the least up.
 use Rattle.std.proofs.Common.{◌≡◌, ℕ, zero, suc, ◌+◌, ◌<◌, ◌≤◌, Bool, true, false, cond, ◌&&◌, ◌||◌, eqb, ltb, ◌⊎◌, List, [], ◌∷◌, ◌++◌, get_or, Some, None, Option, sym, refl, ap, ◌∙◌, subst, inl, inr, ⊎_elim, arith}
 use mathlib.Core.Bool.{false≢true}
-use Rattle.std.specs.List.{AllByRecursion as All, slice_get}
+use Rattle.std.specs.List.{AllByRecursion, slice_get}
 use Rattle.std.proofs.lemmas.Bool.{ltb-true, lt-ltb, eqb-true, eq-eqb, and_parts, and_from, or_cases, or_left, or_right, cases_Bool, both_ways, cond-true, cond-false}
 use Rattle.std.proofs.lemmas.List.{append_assoc}
 use Rattle.ir.specs.Instructions.{Instr}
@@ -11,19 +11,19 @@ use Rattle.program.specs.Uses.{uses, uses_at, uses_by, uses_from, unused, before
 abbrev Pair : Type 0
 Pair = ℕ × ℕ
 
-all_map : (P Q : Pair → Type 0) → ((x : Pair) → P x → Q x) → (xs : List Pair) → All P xs → All Q xs
+all_map : (P Q : Pair → Type 0) → ((x : Pair) → P x → Q x) → (xs : List Pair) → AllByRecursion P xs → AllByRecursion Q xs
 all_map P Q f [] a = tt
 all_map P Q f (x ∷ xs) a = (f x a.0, all_map P Q f xs a.1)
 
-all_append : (P : Pair → Type 0) (xs ys : List Pair) → All P xs → All P ys → All P (xs ++ ys)
+all_append : (P : Pair → Type 0) (xs ys : List Pair) → AllByRecursion P xs → AllByRecursion P ys → AllByRecursion P (xs ++ ys)
 all_append P [] ys a b = b
 all_append P (x ∷ xs) ys a b = (a.0, all_append P xs ys a.1 b)
 
-all_right : (P : Pair → Type 0) (xs ys : List Pair) → All P (xs ++ ys) → All P ys
+all_right : (P : Pair → Type 0) (xs ys : List Pair) → AllByRecursion P (xs ++ ys) → AllByRecursion P ys
 all_right P [] ys a = a
 all_right P (x ∷ xs) ys a = all_right P xs ys a.1
 
-pub all_among : (P : Pair → Type 0) (y : Pair) (xs : List Pair) → All P xs → Among y xs → P y
+pub all_among : (P : Pair → Type 0) (y : Pair) (xs : List Pair) → AllByRecursion P xs → Among y xs → P y
 all_among P y [] a h = absurd h
 all_among P y (x ∷ xs) a h = ⊎_elim (λ e. subst P e a.0) (λ q. all_among P y xs a.1 q) h
 
@@ -41,16 +41,16 @@ among_right y (x ∷ xs) ys h = inr (among_right y xs ys h)
 
 -- ---- ascending
 
-ascending_append : (xs ys : List Pair) → Ascending xs → Ascending ys → All (λ x. All (Precedes x) ys) xs → Ascending (xs ++ ys)
+ascending_append : (xs ys : List Pair) → Ascending xs → Ascending ys → AllByRecursion (λ x. AllByRecursion (Precedes x) ys) xs → Ascending (xs ++ ys)
 ascending_append [] ys a b c = b
 ascending_append (x ∷ xs) ys a b c = (all_append (Precedes x) xs ys a.0 c.0, ascending_append xs ys a.1 b c.1)
 
-at_low : (v u k : ℕ) (xs : List ℕ) → All (λ y. (y.0 ≡ u) × (k ≤ y.1)) (uses_at v u k xs)
+at_low : (v u k : ℕ) (xs : List ℕ) → AllByRecursion (λ y. (y.0 ≡ u) × (k ≤ y.1)) (uses_at v u k xs)
 at_low v u k [] = tt
 at_low v u k (x ∷ xs) =
     let P : Pair → Type 0 = λ y. (y.0 ≡ u) × (k ≤ y.1) in
-    let rest : All P (uses_at v u (suc k) xs) = all_map (λ y. (y.0 ≡ u) × (suc k ≤ y.1)) P (λ y h. (h.0, omega arith)) (uses_at v u (suc k) xs) (at_low v u (suc k) xs) in
-    elim (eqb x v) as (λ t. All P (cond t ((u, k) ∷ uses_at v u (suc k) xs) (uses_at v u (suc k) xs))) [
+    let rest : AllByRecursion P (uses_at v u (suc k) xs) = all_map (λ y. (y.0 ≡ u) × (suc k ≤ y.1)) P (λ y h. (h.0, omega arith)) (uses_at v u (suc k) xs) (at_low v u (suc k) xs) in
+    elim (eqb x v) as (λ t. AllByRecursion P (cond t ((u, k) ∷ uses_at v u (suc k) xs) (uses_at v u (suc k) xs))) [
       | true ↦ ((refl, omega arith), rest)
       | false ↦ rest
     ]
@@ -59,14 +59,14 @@ at_ascends : (v u k : ℕ) (xs : List ℕ) → Ascending (uses_at v u k xs)
 at_ascends v u k [] = tt
 at_ascends v u k (x ∷ xs) =
     let rest : Ascending (uses_at v u (suc k) xs) = at_ascends v u (suc k) xs in
-    let above : All (Precedes (u, k)) (uses_at v u (suc k) xs)
+    let above : AllByRecursion (Precedes (u, k)) (uses_at v u (suc k) xs)
     = all_map (λ y. (y.0 ≡ u) × (suc k ≤ y.1)) (Precedes (u, k)) (λ y h. inr (sym h.0, omega arith)) (uses_at v u (suc k) xs) (at_low v u (suc k) xs) in
     elim (eqb x v) as (λ t. Ascending (cond t ((u, k) ∷ uses_at v u (suc k) xs) (uses_at v u (suc k) xs))) [
       | true ↦ (above, rest)
       | false ↦ rest
     ]
 
-by_low : (v u : ℕ) (c : Cell) → All (λ y. y.0 ≡ u) (uses_by v u c)
+by_low : (v u : ℕ) (c : Cell) → AllByRecursion (λ y. y.0 ≡ u) (uses_by v u c)
 by_low v u None = tt
 by_low v u (Some i) = all_map (λ y. (y.0 ≡ u) × (1 ≤ y.1)) (λ y. y.0 ≡ u) (λ y h. h.0) (uses_at v u 1 (operands i)) (at_low v u 1 (operands i))
 
@@ -74,7 +74,7 @@ by_ascends : (v u : ℕ) (c : Cell) → Ascending (uses_by v u c)
 by_ascends v u None = tt
 by_ascends v u (Some i) = at_ascends v u 1 (operands i)
 
-from_low : (v u : ℕ) (cs : List Cell) → All (λ y. u ≤ y.0) (uses_from v u cs)
+from_low : (v u : ℕ) (cs : List Cell) → AllByRecursion (λ y. u ≤ y.0) (uses_from v u cs)
 from_low v u [] = tt
 from_low v u (c ∷ cs) =
     all_append (λ y. u ≤ y.0) (uses_by v u c) (uses_from v (u + 1) cs)
@@ -86,7 +86,7 @@ from_ascends v u [] = tt
 from_ascends v u (c ∷ cs) =
     let tail : List Pair = uses_from v (u + 1) cs in
     ascending_append (uses_by v u c) tail (by_ascends v u c) (from_ascends v (u + 1) cs)
-    (all_map (λ y. y.0 ≡ u) (λ x. All (Precedes x) tail)
+    (all_map (λ y. y.0 ≡ u) (λ x. AllByRecursion (Precedes x) tail)
     (λ x h. all_map (λ y. u + 1 ≤ y.0) (Precedes x) (λ y g. inl (omega arith)) tail (from_low v (u + 1) cs)) (uses_by v u c) (by_low v u c))
 
 -- ---- every use and no other
@@ -225,16 +225,16 @@ module _ (p : Program) (v : ℕ) (after : Option Pair) where
 
 -- ---- reading it all
 
-least_skip : (after : Option Pair) (pre ys : List Pair) → All (λ x. beyond after x ≡ false) pre → least_beyond after (pre ++ ys) ≡ least_beyond after ys
+least_skip : (after : Option Pair) (pre ys : List Pair) → AllByRecursion (λ x. beyond after x ≡ false) pre → least_beyond after (pre ++ ys) ≡ least_beyond after ys
 least_skip after [] ys s = refl
 least_skip after (x ∷ pre) ys s =
     cond-false (beyond after x) (Some x) (least_beyond after (pre ++ ys)) s.0 ∙ least_skip after pre ys s.1
 
-lower : (pre : List Pair) (y : Pair) (ys : List Pair) → Ascending (pre ++ (y ∷ ys)) → All (λ x. Precedes x y) pre
+lower : (pre : List Pair) (y : Pair) (ys : List Pair) → Ascending (pre ++ (y ∷ ys)) → AllByRecursion (λ x. Precedes x y) pre
 lower [] y ys a = tt
 lower (x ∷ pre) y ys a = ((all_right (Precedes x) pre (y ∷ ys) a.0).0, lower pre y ys a.1)
 
-upper : (pre : List Pair) (y : Pair) (ys : List Pair) → Ascending (pre ++ (y ∷ ys)) → All (Precedes y) ys
+upper : (pre : List Pair) (y : Pair) (ys : List Pair) → Ascending (pre ++ (y ∷ ys)) → AllByRecursion (Precedes y) ys
 upper [] y ys a = a.0
 upper (x ∷ pre) y ys a = upper pre y ys a.1
 
@@ -249,7 +249,7 @@ itself y h = ⊎_elim (λ a. omega arith) (λ a. omega arith) h
 
 reads_on :
     (xs : List Pair) (after : Option Pair) (pre ys : List Pair) → xs ≡ pre ++ ys → Ascending (pre ++ ys)
-    → All (λ x. beyond after x ≡ false) pre → All (λ y. beyond after y ≡ true) ys → Reading (λ a. least_beyond a xs) after ys
+    → AllByRecursion (λ x. beyond after x ≡ false) pre → AllByRecursion (λ y. beyond after y ≡ true) ys → Reading (λ a. least_beyond a xs) after ys
 reads_on xs after pre [] e a s b = ap (least_beyond after) e ∙ least_skip after pre [] s
 reads_on xs after pre (y ∷ ys) e a s b =
     let next : pre ++ (y ∷ ys) ≡ (pre ++ (y ∷ [])) ++ ys = sym (append_assoc pre (y ∷ []) ys) in (
@@ -261,7 +261,7 @@ reads_on xs after pre (y ∷ ys) e a s b =
           (all_map (Precedes y) (λ x. before y x ≡ true) (λ x h. true_before y x h) ys (upper pre y ys a)),
     )
 
-all_beyond_none : (xs : List Pair) → All (λ y. beyond None y ≡ true) xs
+all_beyond_none : (xs : List Pair) → AllByRecursion (λ y. beyond None y ≡ true) xs
 all_beyond_none [] = tt
 all_beyond_none (x ∷ xs) = (refl, all_beyond_none xs)
 

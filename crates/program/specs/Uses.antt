@@ -1,6 +1,6 @@
 -- Uses. A use of v is a pair (u, k): the number u is loose or placed, and its operand at position k, from 1, is v.
 use Rattle.std.specs.Prelude.{◌≡◌, ℕ, zero, suc, ◌+◌, ◌<◌, Bool, true, false, cond, ◌&&◌, ◌||◌, ◌⊎◌, List, [], ◌∷◌, ◌++◌, Some, None, Option, ◌==◌, nat_lt}
-use Rattle.std.specs.List.{AllByRecursion as All, slice_get}
+use Rattle.std.specs.List.{AllByRecursion, slice_get}
 use Rattle.ir.specs.Instructions.{Instr}
 use Rattle.program.specs.Programs.{Program, Cell, cell, operands}
 
@@ -52,7 +52,7 @@ Precedes x y = (x.0 < y.0) ⊎ ((x.0 ≡ y.0) × (x.1 < y.1))
 -- each pair precedes all that follow it
 abbrev pub Ascending : List (ℕ × ℕ) → Type 0
 Ascending [] = Unit {0}
-Ascending (x ∷ xs) = All (Precedes x) xs × Ascending xs
+Ascending (x ∷ xs) = AllByRecursion (Precedes x) xs × Ascending xs
 
 abbrev pub Among : ℕ × ℕ → List (ℕ × ℕ) → Type 0
 Among y [] = ⊥

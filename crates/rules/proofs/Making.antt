@@ -1,8 +1,8 @@
 -- The store's commands make a valid change, and their journal takes it back.
 use Rattle.std.proofs.Common.{◌≡◌, ℕ, suc, ◌≤◌, List, [], ◌∷◌, ◌++◌, length, Some, None, sym, refl, ap, ◌∙◌, subst, arith}
-use Rattle.std.specs.List.{remove, AllByRecursion as All}
+use Rattle.std.specs.List.{remove, AllByRecursion}
 use Rattle.std.proofs.lemmas.List.{length-append}
-use Rattle.std.proofs.ByRecursion.{All-append}
+use Rattle.std.proofs.ByRecursion.{AllByRecursion-append}
 use Rattle.ir.specs.Instructions.{Instr}
 use Rattle.program.specs.Programs.{Program, Busy, at, index_of, In, Before, Operands}
 use Rattle.program.specs.Uses.{uses, unused}
@@ -31,7 +31,7 @@ use Rattle.rules.proofs.Valid.{Unread, Valid}
 
 -- fair edits lead from p to q
 pub record Made (p : Program) (es : List Edit) (q : Program) : Type 0 where
-  pub fair : All Fair es
+  pub fair : AllByRecursion Fair es
   pub accepted : Runs p es
   pub gives : play p es ≡ q
 
@@ -46,7 +46,7 @@ play_append p (e ∷ es) ds = play_append (after p e) es ds
 made_append : (p q r : Program) (es ds : List Edit) → Made p es q → Made q ds r → Made p (es ++ ds) r
 made_append p q r es ds m l =
     record {
-      fair = All-append Fair es ds m.fair l.fair;
+      fair = AllByRecursion-append Fair es ds m.fair l.fair;
       accepted = runs_append p es ds m.accepted (subst (λ x. Runs x ds) (sym m.gives) l.accepted);
       gives = play_append p es ds ∙ (ap (λ x. play x ds) m.gives ∙ l.gives);
     }

@@ -1,6 +1,6 @@
 -- Each rule's change is valid: it keeps the program sound and its outputs, and the store's commands make it.
 use Rattle.std.proofs.Common.{ℕ, ◌<◌, List, [], ◌∷◌, subst, ⊎_elim, arith, lit<}
-use Rattle.std.specs.List.{AllByRecursion as All}
+use Rattle.std.specs.List.{AllByRecursion}
 use Rattle.program.specs.Programs.{Program, In}
 use Rattle.rules.specs.Rules.{Change, rules}
 use Rattle.rules.specs.Laws.{Sound, Listed, RulesKeepOutputs, RulesByCommands}
@@ -10,11 +10,11 @@ use Rattle.rules.proofs.Keeping.{change_keeps}
 use Rattle.rules.proofs.Folding.{dead_valid, fold_valid, twin_valid}
 use Rattle.rules.proofs.Replacements.{same_valid, fixed_valid, power_valid}
 
-all_listed : (P : ℕ × Change → Type 0) (r : ℕ × Change) (rs : List (ℕ × Change)) → All P rs → Listed r rs → P r
+all_listed : (P : ℕ × Change → Type 0) (r : ℕ × Change) (rs : List (ℕ × Change)) → AllByRecursion P rs → Listed r rs → P r
 all_listed P r [] a l = absurd l
 all_listed P r (x ∷ xs) a l = ⊎_elim (λ q. subst P q a.0) (λ q. all_listed P r xs a.1 q) l
 
-rules_valid : (p : Program) (n : ℕ) → Sound p → In n p.order → All (λ r. Valid p n r.1) (rules p n)
+rules_valid : (p : Program) (n : ℕ) → Sound p → In n p.order → AllByRecursion (λ r. Valid p n r.1) (rules p n)
 unfolding rules
 rules_valid p n s i =
     (dead_valid p n s i, (fold_valid p n s i, (same_valid p n s i, (fixed_valid p n s i, (twin_valid p n s i, (power_valid p n s i, tt))))))

@@ -1,6 +1,6 @@
 -- What the rules, trials and passes obey.
 use Rattle.std.specs.Prelude.{◌≡◌, ℕ, zero, suc, ◌+◌, ◌<◌, ◌≤◌, ◌⊎◌, List, [], ◌∷◌, length}
-use Rattle.std.specs.List.{AllByRecursion as All}
+use Rattle.std.specs.List.{AllByRecursion}
 use Rattle.program.specs.Programs.{Program, In, WellFormed}
 use Rattle.program.specs.Proper.{Proper}
 use Rattle.edits.specs.Commands.{Fair}
@@ -33,7 +33,7 @@ RulesKeepOutputs =
 
 -- the commands of a change are fair, accepted one after another, and make it
 pub record ByCommands (p : Program) (n : ℕ) (change : Change) : Type 0 where
-  pub fair : All Fair (commands p n change)
+  pub fair : AllByRecursion Fair (commands p n change)
   pub accepted : Runs p (commands p n change)
   pub gives : play p (commands p n change) ≡ apply p n change
   -- their journal has as many records as the change costs, at most two more than n has uses

@@ -1,6 +1,6 @@
 -- The six rules that rewrite a program at a number, and the changes that they make.
 use Rattle.std.specs.Prelude.{◌≡◌, ℕ, zero, suc, ◌+◌, ◌^◌, ◌<◌, Bool, true, cond, not, ◌&&◌, ◌||◌, List, [], ◌∷◌, ◌++◌, length, Some, None, ◌==◌}
-use Rattle.std.specs.List.{remove, AllByRecursion as All}
+use Rattle.std.specs.List.{remove, AllByRecursion}
 use Rattle.ir.specs.declared.operation.Op.{Op}
 use Rattle.ir.specs.declared.operation.Op.TheVariants.{Constant, Input, Add, Subtract, Multiply, And, Or, Xor, Less, Equal, Pick, Shift, Out}
 use Rattle.ir.specs.Instructions.{Instr, constant_of}
@@ -14,7 +14,7 @@ use Rattle.runs.specs.Runs.{out?, value}
 
 -- sixteen words
 abbrev pub Inputs : List ℕ → Type 0
-Inputs inputs = (length inputs ≡ 16) × All (λ x. x < word) inputs
+Inputs inputs = (length inputs ≡ 16) × AllByRecursion (λ x. x < word) inputs
 
 -- ---- changes
 

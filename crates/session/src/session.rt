@@ -1,5 +1,5 @@
 // A session over any store and any cost model.
-mod edits;
+mod editing;
 mod readings;
 mod running;
 mod saves;
