@@ -2,7 +2,7 @@
 use Rattle.std.proofs.Common.{◌≡◌, ℕ, suc, ◌≤◌, List, [], ◌∷◌, ◌++◌, length, Some, None, sym, refl, ap, ◌∙◌, subst, arith}
 use Rattle.std.specs.List.{remove, AllByRecursion}
 use Rattle.std.proofs.lemmas.List.{length-append}
-use Rattle.std.proofs.ByRecursion.{AllByRecursion-append}
+use Rattle.std.proofs.ByRecursion.{All-append}
 use Rattle.ir.specs.Instructions.{Instr}
 use Rattle.program.specs.Programs.{Program, Busy, at, index_of, In, Before, Operands}
 use Rattle.program.specs.Uses.{uses, unused}
@@ -46,7 +46,7 @@ play_append p (e ∷ es) ds = play_append (after p e) es ds
 made_append : (p q r : Program) (es ds : List Edit) → Made p es q → Made q ds r → Made p (es ++ ds) r
 made_append p q r es ds m l =
     record {
-      fair = AllByRecursion-append Fair es ds m.fair l.fair;
+      fair = All-append Fair es ds m.fair l.fair;
       accepted = runs_append p es ds m.accepted (subst (λ x. Runs x ds) (sym m.gives) l.accepted);
       gives = play_append p es ds ∙ (ap (λ x. play x ds) m.gives ∙ l.gives);
     }
