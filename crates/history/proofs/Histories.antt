@@ -1,10 +1,10 @@
 -- The bundles and the saves go side by side: each bundle leads, with no save present, from the program that the save below it keeps to the program above.
-use Rattle.std.proofs.Common.{◌≡◌, ℕ, ◌+◌, ◌≤◌, Bool, true, false, cond, eqb, ltb, ◌⊎◌, List, [], ◌∷◌, ◌++◌, length, Some, None, Ok, Err, Option, Result, sym, refl, ap, ◌∙◌, subst, inl, inr, ⊎_elim, arith}
+use Rattle.std.proofs.Common.{◌≡◌, ℕ, ◌+◌, ◌≤◌, Bool, true, false, cond, eqb, ltb, List, [], ◌∷◌, ◌++◌, length, Some, None, Ok, Err, sym, refl, ap, ◌∙◌, subst, ⊎_elim, arith}
 use Rattle.program.specs.Programs.{Program}
 use Rattle.session.specs.declared.fault.SessionFault.TheVariants.{TooDeep, NotNewest, WrongKind}
 use Rattle.session.specs.Copying.{Save, Copying, fresh, Step, to, open_step, same, close_fault, left_after, accepted, reverted, closed}
-use Rattle.session.specs.Calls.{Work, Ending, accepting, reverting, Act, work, begin, end, Answer, zeroed, work_step, close_step, act_step, answers, final}
-use Rattle.history.specs.Striking.{Entry, entry, Bundles, bundles, fold_down, strike, strike_all, joined, history, acts_of, answers_of}
+use Rattle.session.specs.Calls.{Work, accepting, reverting, Act, work, begin, end, Answer, zeroed, work_step, act_step, answers, final}
+use Rattle.history.specs.Striking.{Entry, entry, Bundles, bundles, strike, strike_all, joined, history, acts_of, answers_of}
 use Rattle.history.specs.Law.{Accepted, AllAccepted, Repeats}
 use Rattle.history.proofs.Works.{Refusal, Success, steady}
 

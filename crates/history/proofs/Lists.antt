@@ -1,12 +1,12 @@
 -- A list of calls, one call longer.
-use Rattle.std.proofs.Common.{◌≡◌, ℕ, ◌+◌, ◌<◌, ◌≤◌, List, [], ◌∷◌, ◌++◌, map, length, get_or, take, drop, set, sym, refl, ap, ◌∙◌, arith}
-use Rattle.std.proofs.lemmas.List.{take_more, take_more_set, take_all, drop-drop, drop-set-lt, map-append, get_or_read}
+use Rattle.std.proofs.Common.{◌≡◌, ℕ, ◌+◌, ◌<◌, List, [], ◌∷◌, ◌++◌, map, length, get_or, take, drop, set, sym, refl, ap, ◌∙◌, arith}
+use Rattle.std.proofs.lemmas.List.{take_more, take_more_set, drop-drop, drop-set-lt, map-append}
 use Rattle.program.specs.Programs.{Program}
 use Rattle.session.specs.declared.call.Call.{Call}
 use Rattle.session.specs.declared.call.Reply.{Reply}
 use Rattle.session.specs.declared.session.Session.{Session}
 use Rattle.session.specs.Copying.{Copying}
-use Rattle.session.specs.Calls.{Act, Answer, act_of, answer_of, act_step, answers, final}
+use Rattle.session.specs.Calls.{Act, act_of, answer_of, act_step, answers, final}
 use Rattle.session.specs.Meaning.{meaning, Called}
 use Rattle.history.specs.Entering.{Made}
 

@@ -1,10 +1,8 @@
 -- The use lists as the readings give them.
-use Rattle.std.proofs.Common.{◌≡◌, ℕ, List, [], ◌∷◌, length, Some, None, Ok, Err, Option, sym, refl, ap, ◌∙◌, subst}
-use Rattle.ir.specs.Instructions.{Instr}
-use Rattle.program.specs.Programs.{Program, Busy, cell, held, at, Operands}
-use Rattle.program.specs.Uses.{uses, least_beyond, Reading, position}
-use Rattle.program.specs.Faults.{busy_fault}
-use Rattle.program.specs.Readings.{answered, use_answer}
+use Rattle.std.proofs.Common.{◌≡◌, ℕ, List, [], ◌∷◌, length, Some, None, Ok, Option, ap, ◌∙◌, subst}
+use Rattle.program.specs.Programs.{Program, Busy, held, Operands}
+use Rattle.program.specs.Uses.{uses, least_beyond, Reading}
+use Rattle.program.specs.Readings.{answered}
 use Rattle.program.specs.Proper.{Proper}
 use Rattle.program.proofs.Uses.{uses_law}
 use Rattle.program.proofs.Accepting.{busy_accepted}

@@ -1,5 +1,5 @@
 -- Work that is accepted under saves is accepted without them too, with the same answer and the same program.
-use Rattle.std.proofs.Common.{◌≡◌, ℕ, ◌-◌, ◌≤◌, Bool, true, false, cond, ltb, ◌⊎◌, List, [], ◌∷◌, length, Some, None, Ok, Err, Option, Result, sym, refl, ap, ◌∙◌, inl, inr, arith}
+use Rattle.std.proofs.Common.{◌≡◌, ℕ, ◌-◌, ◌≤◌, Bool, true, false, cond, ltb, ◌⊎◌, List, [], ◌∷◌, length, Some, None, Ok, Err, Option, Result, refl, inl, inr, arith}
 use Rattle.program.specs.declared.fault.StoreFault.{StoreFault}
 use Rattle.program.specs.Programs.{Program}
 use Rattle.program.specs.Uses.{uses}
@@ -7,7 +7,7 @@ use Rattle.edits.specs.Commands.{fault_of, after}
 use Rattle.edits.specs.Replace.{replace_fault, replace as replaced}
 use Rattle.session.specs.declared.fault.SessionFault.{SessionFault}
 use Rattle.session.specs.declared.fault.SessionFault.TheVariants.{Store, TooFewRecords}
-use Rattle.session.specs.Copying.{Save, Copying, fresh, Step, to, charged, edited, edit_step, replace_step}
+use Rattle.session.specs.Copying.{Save, Copying, fresh, Step, to, charged, edited}
 use Rattle.session.specs.Calls.{Work, edit, replace, Answer, zeroed, work_step}
 
 pub record Refusal (s : Copying) (t : Step Answer) : Type 0 where

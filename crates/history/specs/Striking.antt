@@ -1,6 +1,6 @@
 -- The surviving history: what is left of a list of calls once the refused ones, and every call inside a reverted save, are struck.
 -- It goes by the calls and by which of them were refused.
-use Rattle.std.specs.Prelude.{ℕ, Bool, List, [], ◌∷◌, ◌++◌, Ok, Err}
+use Rattle.std.specs.Prelude.{List, [], ◌∷◌, ◌++◌, Ok, Err}
 use Rattle.session.specs.Calls.{Act, work, begin, end, Ending, accepting, reverting, Answer}
 
 -- a call and its answer

@@ -1,7 +1,7 @@
 -- Results that anyone can work out by hand.
 use Rattle.std.specs.Prelude.{◌≡◌, ℕ, List, [], ◌∷◌, Some, None}
 use Rattle.std.specs.List.{AllByRecursion}
-use Rattle.ir.specs.declared.operation.Op.TheVariants.{Constant, Input, Add, Subtract, Multiply, Shift, Out}
+use Rattle.ir.specs.declared.operation.Op.TheVariants.{Input, Add, Subtract, Multiply, Shift, Out}
 use Rattle.ir.specs.Instructions.{Instr, constant_of}
 use Rattle.ir.specs.Values.{value_of}
 use Rattle.program.specs.Programs.{Program, new_program}

@@ -7,7 +7,7 @@ use Rattle.ir.specs.declared.operation.Op.TheVariants.{Constant, Input, Add, Sub
 use Rattle.ir.specs.Operations.{arity}
 use Rattle.ir.specs.Instructions.{Instr}
 use Rattle.program.specs.Programs.{operands}
-use Rattle.program.specs.Uses.{uses_at, uses_by, uses_from, before, beyond, least_beyond}
+use Rattle.program.specs.Uses.{uses_at, uses_by, uses_from, before, least_beyond}
 use Rattle.linked.specs.declared.cells.LinkedCell.{LinkedCell}
 use Rattle.linked.specs.LinkedModel.{content, bodies}
 use Rattle.linked.specs.Rings.{occurs}

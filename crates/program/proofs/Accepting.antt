@@ -1,5 +1,5 @@
 -- The faults of a command are absent exactly if the program allows it.
-use Rattle.std.proofs.Common.{◌≡◌, ℕ, ◌<◌, Bool, true, false, not, ◌&&◌, eqb, ltb, List, get_or, Some, None, Option, sym, refl, ap, ◌∙◌, ⊎_elim}
+use Rattle.std.proofs.Common.{◌≡◌, ℕ, ◌<◌, Bool, true, false, not, ◌&&◌, eqb, Some, None, Option, sym, refl, ap, ◌∙◌, ⊎_elim}
 use mathlib.Core.Bool.{false≢true}
 use Rattle.std.specs.Option.{option_or}
 use Rattle.std.proofs.lemmas.Bool.{ltb-true, lt-ltb, eqb-false, ne_eqb, and_parts, and_from, not-true, not_from_false, cases_lt, both_ways}
@@ -10,7 +10,7 @@ use Rattle.program.specs.declared.fault.StoreFault.TheVariants.{OutOfRange, Wron
 use Rattle.program.specs.Programs.{Program, Cell, size, cell, busy, Busy, has, In, within, state_by, state_of, is_free, is_loose, is_placed, operands, takes, Operands}
 use Rattle.program.specs.Uses.{uses, unused}
 use Rattle.program.specs.Faults.{unless, when, first_fault, range_fault, operand_fault, ranges_fault, make_fault, rewrite_fault, anchor_range, anchor_fault, link_fault, placed_fault, unmake_fault, busy_fault}
-use Rattle.program.specs.Laws.{CanMake, CanRewrite, Anchored, CanLink, CanUnlink, CanUnmake, AcceptedExactly, CommandsAccepted}
+use Rattle.program.specs.Laws.{CanMake, CanRewrite, Anchored, CanLink, CanUnlink, CanUnmake, CommandsAccepted}
 use Rattle.program.proofs.Faults.{in_turn, or_left_none, or_right_none, unless_none}
 use Rattle.program.proofs.Operands.{operands_map}
 use Rattle.program.proofs.Places.{has_in, in_has, has_out, out_has}

@@ -1,5 +1,5 @@
 -- The commands keep a program proper.
-use Rattle.std.proofs.Common.{◌≡◌, ℕ, zero, suc, ◌+◌, ◌<◌, ◌≤◌, Bool, true, false, cond, not, ◌&&◌, eqb, ◌⊎◌, List, [], ◌∷◌, length, get_or, set, replicate, Some, None, Option, sym, refl, ap, ◌∙◌, subst, inl, inr, ⊎_elim, arith}
+use Rattle.std.proofs.Common.{◌≡◌, ℕ, zero, suc, ◌<◌, ◌≤◌, Bool, true, false, not, ◌&&◌, eqb, ◌⊎◌, List, [], ◌∷◌, length, get_or, set, replicate, Some, None, Option, sym, refl, ap, ◌∙◌, subst, inl, inr, ⊎_elim, arith}
 use mathlib.Core.Bool.{false≢true}
 use Rattle.std.specs.List.{insert, remove}
 use Rattle.std.proofs.lemmas.Bool.{cases_eq, and_parts, and_from, not-true, not_from_false, eqb-false, ne_eqb}
@@ -11,7 +11,7 @@ use Rattle.program.specs.Uses.{Use}
 use Rattle.program.specs.Faults.{make_fault, link_fault, placed_fault, unmake_fault, rewrite_fault}
 use Rattle.program.specs.Commands.{put, reorder, settled, anchor_place}
 use Rattle.program.specs.Proper.{Proper, fits?, tied?, Tied}
-use Rattle.program.specs.Laws.{CanMake, CanRewrite, CanLink, CanUnlink, CanUnmake, Kept, CommandsKeepProper, NewIsProper}
+use Rattle.program.specs.Laws.{Kept, CommandsKeepProper, NewIsProper}
 use Rattle.program.proofs.Accepting.{commands_accepted, busy_inside}
 use Rattle.program.proofs.Operands.{operands_map, operands_both, operands_from, no_operands}
 

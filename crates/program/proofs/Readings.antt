@@ -1,20 +1,17 @@
 -- What an answer of a reading says, accepted or refused.
-use Rattle.std.proofs.Common.{◌≡◌, ℕ, ◌+◌, ◌<◌, ◌≤◌, Bool, true, false, not, List, length, get_or, Some, None, Ok, Err, Option, Result, sym, refl, ap, ◌∙◌, ⊎_elim, arith}
-use mathlib.Core.Bool.{false≢true}
-use Rattle.std.specs.List.{slice_get}
+use Rattle.std.proofs.Common.{◌≡◌, ℕ, ◌+◌, Bool, true, false, length, Some, None, Ok, Err, Option, sym, refl, ap, ⊎_elim, arith}
 use Rattle.std.proofs.lemmas.Option.{slice_get_past}
 use Rattle.std.proofs.lemmas.List.{get_or_past}
 use Rattle.std.proofs.lemmas.Bool.{ltb-false, cases_lt}
-use Rattle.ir.specs.Instructions.{Instr, constant_of}
+use Rattle.ir.specs.Instructions.{constant_of}
 use Rattle.program.specs.declared.fault.StoreFault.{StoreFault}
-use Rattle.program.specs.declared.fault.StoreFault.TheVariants.{OutOfRange, WrongState}
+use Rattle.program.specs.declared.fault.StoreFault.TheVariants.{OutOfRange}
 use Rattle.program.specs.declared.state.State.{State}
 use Rattle.program.specs.declared.state.State.TheVariants.{Free}
-use Rattle.program.specs.Programs.{Program, Cell, size, cell, busy, Busy, held, at, index_of, has, In, within, state_by, state_of}
+use Rattle.program.specs.Programs.{Program, Cell, size, cell, busy, Busy, held, at, index_of, has, within, state_by, state_of}
 use Rattle.program.specs.Faults.{unless, range_fault, placed_fault, busy_fault}
 use Rattle.program.specs.Readings.{answered, state_answer, next_of}
 use Rattle.program.specs.Proper.{Proper}
-use Rattle.program.specs.Laws.{CanUnlink}
 use Rattle.program.proofs.Places.{index_in}
 use Rattle.program.proofs.Accepting.{commands_accepted, busy_accepted}
 

@@ -1,12 +1,12 @@
 -- Lists of uses: they ascend, have every use and no other, and are read from the least up.
-use Rattle.std.proofs.Common.{◌≡◌, ℕ, zero, suc, ◌+◌, ◌<◌, ◌≤◌, Bool, true, false, cond, ◌&&◌, ◌||◌, eqb, ltb, ◌⊎◌, List, [], ◌∷◌, ◌++◌, get_or, Some, None, Option, sym, refl, ap, ◌∙◌, subst, inl, inr, ⊎_elim, arith}
+use Rattle.std.proofs.Common.{◌≡◌, ℕ, zero, suc, ◌+◌, ◌≤◌, Bool, true, false, cond, ◌&&◌, eqb, ltb, ◌⊎◌, List, [], ◌∷◌, ◌++◌, get_or, Some, None, Option, sym, refl, ap, ◌∙◌, subst, inl, inr, ⊎_elim, arith}
 use mathlib.Core.Bool.{false≢true}
 use Rattle.std.specs.List.{AllByRecursion, slice_get}
 use Rattle.std.proofs.lemmas.Bool.{ltb-true, lt-ltb, eqb-true, eq-eqb, and_parts, and_from, or_cases, or_left, or_right, cases_Bool, both_ways, cond-true, cond-false}
 use Rattle.std.proofs.lemmas.List.{append_assoc}
 use Rattle.ir.specs.Instructions.{Instr}
 use Rattle.program.specs.Programs.{Program, Cell, cell, operands}
-use Rattle.program.specs.Uses.{uses, uses_at, uses_by, uses_from, unused, before, beyond, least_beyond, Precedes, Ascending, Among, position, Use, Beyond, LeastUse, Reading, UsesSaid, UsesLaw}
+use Rattle.program.specs.Uses.{uses, uses_at, uses_by, uses_from, unused, before, beyond, least_beyond, Precedes, Ascending, Among, position, Use, Beyond, LeastUse, Reading, UsesLaw}
 
 abbrev Pair : Type 0
 Pair = ℕ × ℕ

@@ -1,5 +1,5 @@
 -- When a command is accepted, said of the program alone; and that the commands keep a program proper.
-use Rattle.std.specs.Prelude.{◌≡◌, ℕ, ◌<◌, ◌≤◌, true, false, length, Some, None, Option, ◌≢◌}
+use Rattle.std.specs.Prelude.{◌≡◌, ℕ, ◌<◌, ◌≤◌, false, length, Some, None, Option, ◌≢◌}
 use Rattle.ir.specs.Instructions.{Instr, Shapely}
 use Rattle.program.specs.Programs.{Program, size, cell, busy, Busy, Operands, In, new_program}
 use Rattle.program.specs.Uses.{Use}

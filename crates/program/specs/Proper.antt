@@ -1,6 +1,6 @@
 -- What the program of every store obeys.
 use Rattle.std.specs.Prelude.{◌≡◌, ℕ, ◌≤◌, Bool, true, cond, not, ◌&&◌, ◌==◌, ◌≢◌}
-use Rattle.ir.specs.Instructions.{Instr, Shapely}
+use Rattle.ir.specs.Instructions.{Shapely}
 use Rattle.program.specs.Programs.{Program, size, cell, busy, Busy, at, takes, Operands, In, Distinct}
 
 pub record Proper (p : Program) : Type 0 where

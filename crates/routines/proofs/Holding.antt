@@ -1,13 +1,13 @@
 -- A held save, an edit under it, and the save taken back.
-use Rattle.std.proofs.Common.{◌≡◌, ℕ, ◌+◌, ◌-◌, Bool, true, false, cond, eqb, ltb, List, [], ◌∷◌, length, Some, None, Ok, Err, Option, Result, sym, refl, ap, ◌∙◌, subst, arith}
+use Rattle.std.proofs.Common.{◌≡◌, ℕ, ◌+◌, ◌-◌, Bool, true, false, cond, eqb, ltb, List, [], ◌∷◌, length, Some, None, Ok, Err, Option, Result, sym, refl, ap, ◌∙◌, arith}
 use Rattle.std.proofs.lemmas.Bool.{eq-eqb}
 use Rattle.program.specs.declared.fault.StoreFault.{StoreFault}
 use Rattle.program.specs.Programs.{Program}
 use Rattle.edits.specs.Commands.{Edit, fault_of, after}
 use Rattle.session.specs.declared.fault.SessionFault.{SessionFault}
-use Rattle.session.specs.declared.fault.SessionFault.TheVariants.{TooDeep, NotNewest, WrongKind, TooFewRecords}
+use Rattle.session.specs.declared.fault.SessionFault.TheVariants.{TooDeep, NotNewest, TooFewRecords}
 use Rattle.session.specs.declared.token.Token.{Token}
-use Rattle.session.specs.Copying.{Save, Copying, Step, to, charged, edited, edit_step, open_step, same, closed, close_fault, accepted, accept_step, reverted, revert_step}
+use Rattle.session.specs.Copying.{Save, Copying, Step, to, charged, edited, edit_step, open_step, closed, close_fault, accepted, accept_step, reverted, revert_step}
 use Rattle.session.specs.Tokens.{with_token}
 
 -- an edit leaves the saves

@@ -14,7 +14,7 @@ use Rattle.program.proofs.Orders.{before_left}
 use Rattle.program.proofs.Uses.{unused_none}
 use Rattle.program.proofs.Accepting.{commands_accepted}
 use Rattle.program.proofs.Keeping.{never_read}
-use Rattle.edits.specs.Commands.{Edit, unlink, unmake, rewrite, after, opposite, Fair}
+use Rattle.edits.specs.Commands.{Edit, unlink, unmake, after, opposite, Fair}
 use Rattle.edits.specs.Journals.{play, Runs, journal}
 use Rattle.edits.specs.Replace.{replace, Replaceable, swap}
 use Rattle.edits.proofs.Moves.{out_then}

@@ -1,12 +1,12 @@
 -- The checks before a price or a run.
-use Rattle.std.proofs.Common.{◌≡◌, ℕ, ◌*◌, ◌<◌, ◌≤◌, Bool, true, false, cond, eqb, ltb, List, length, Some, None, Ok, Err, Option, Result, sym, refl, ap, ◌∙◌, arith}
+use Rattle.std.proofs.Common.{◌≡◌, ℕ, ◌*◌, ◌<◌, ◌≤◌, Bool, true, false, cond, eqb, ltb, List, length, Some, None, Ok, Err, Option, sym, refl, ap, ◌∙◌, arith}
 use Rattle.std.specs.Option.{option_or}
 use Rattle.std.proofs.lemmas.Bool.{cond-true, cond-false, lt-ltb, le-ltb, ltb-false, eq-eqb, ne_eqb}
 use Rattle.program.specs.Programs.{Program, at, size}
 use Rattle.program.specs.Proper.{Proper}
 use Rattle.program.proofs.Accepting.{busy_inside}
 use Rattle.runs.specs.declared.fault.RunFault.{RunFault}
-use Rattle.runs.specs.declared.fault.RunFault.TheVariants.{ScratchTooShort, IllFormed, InputCount, OutputTooShort}
+use Rattle.runs.specs.declared.fault.RunFault.TheVariants.{ScratchTooShort, InputCount, OutputTooShort}
 use Rattle.runs.specs.Runs.{outs, outputs}
 use Rattle.runs.specs.Form.{broken}
 use Rattle.runs.specs.Answers.{zeros, scratch_fault, ill_formed, price_fault, input_fault, output_fault, run_fault, checked, counted, run_answer, in_words, written, after_run}

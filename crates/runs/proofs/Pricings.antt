@@ -1,8 +1,8 @@
 -- Prices and runs over zero scratch words are those of the program.
-use Rattle.std.proofs.Common.{◌≡◌, ℕ, ◌<◌, ◌≤◌, cond, eqb, ◌⊎◌, List, [], ◌∷◌, length, set, Some, None, sym, refl, ap, ◌∙◌, inl, inr, ⊎_elim, arith}
+use Rattle.std.proofs.Common.{◌≡◌, ℕ, ◌<◌, ◌≤◌, cond, eqb, ◌⊎◌, List, [], ◌∷◌, length, Some, None, sym, refl, ap, ◌∙◌, inl, inr, ⊎_elim, arith}
 use mathlib.Core.Path.{fun_ext}
 use Rattle.std.proofs.lemmas.List.{length-replicate}
-use Rattle.std.proofs.lemmas.Bool.{eq-eqb, cond-true, ltb-true, ltb-false, le-ltb, lt-ltb}
+use Rattle.std.proofs.lemmas.Bool.{eq-eqb, cond-true, le-ltb, lt-ltb}
 use Rattle.ir.specs.Instructions.{Instr}
 use Rattle.program.specs.Programs.{Program, at, size, takes, In, Before, Distinct, Operands, WellFormed}
 use Rattle.program.specs.Proper.{Proper}
@@ -10,7 +10,7 @@ use Rattle.program.proofs.Accepting.{busy_inside}
 use Rattle.program.proofs.Operands.{operands_map}
 use Rattle.program.proofs.Orders.{before_head}
 use Rattle.runs.specs.declared.fault.RunFault.TheVariants.{ScratchTooShort}
-use Rattle.runs.specs.Runs.{arg, upd, nothing}
+use Rattle.runs.specs.Runs.{upd, nothing}
 use Rattle.runs.specs.Prices.{Costing, stamp_of, price_from, price}
 use Rattle.runs.specs.Answers.{zeros, scratch_fault}
 use Rattle.runs.specs.Scratch.{word_at, price_words}

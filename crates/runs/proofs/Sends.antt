@@ -1,5 +1,5 @@
 -- Outputs: how many they are, and the words that they are written to.
-use Rattle.std.proofs.Common.{◌≡◌, ℕ, suc, ◌+◌, ◌*◌, ◌<◌, ◌≤◌, Bool, true, false, cond, List, [], ◌∷◌, ◌++◌, length, get_or, take, drop, set, sym, refl, ap, ◌∙◌, zero-add, arith}
+use Rattle.std.proofs.Common.{◌≡◌, ℕ, suc, ◌+◌, ◌*◌, ◌<◌, ◌≤◌, Bool, true, false, cond, List, [], ◌∷◌, ◌++◌, length, take, drop, set, sym, refl, ap, ◌∙◌, arith}
 use mathlib.Core.Path.{fun_ext}
 use mir.Val.{bool_byte}
 use Rattle.std.proofs.lemmas.List.{length-replicate, length-set, take-append-drop, take_more_set, drop-set-lt, append_assoc}
@@ -10,7 +10,7 @@ use Rattle.program.proofs.Accepting.{busy_inside}
 use Rattle.program.proofs.Orders.{few_placed}
 use Rattle.runs.specs.Runs.{out?, count_outs, outs, outputs, run_from}
 use Rattle.runs.specs.Answers.{zeros, in_words}
-use Rattle.runs.specs.Scratch.{word_at, run_words, put_pairs}
+use Rattle.runs.specs.Scratch.{run_words, put_pairs}
 use Rattle.runs.proofs.Words.{run_law}
 use Rattle.runs.proofs.Tests.{zero_word}
 

@@ -1,12 +1,12 @@
 -- A well-formed program has one fitting valuation on its placed numbers, and a run sends what it says.
-use Rattle.std.proofs.Common.{◌≡◌, ℕ, ◌+◌, Bool, true, false, cond, eqb, ◌⊎◌, List, [], ◌∷◌, ◌++◌, length, sym, refl, ap, ◌∙◌, subst, inl, inr, ⊎_elim, arith, length-append}
+use Rattle.std.proofs.Common.{◌≡◌, ℕ, ◌+◌, Bool, true, false, cond, eqb, ◌⊎◌, List, [], ◌∷◌, ◌++◌, length, sym, refl, ap, ◌∙◌, subst, inl, inr, ⊎_elim, length-append}
 use Rattle.std.proofs.lemmas.Bool.{eq-eqb, ne_eqb, cond-true, cond-false}
 use Rattle.ir.specs.Instructions.{Instr}
 use Rattle.ir.specs.Values.{value_of}
 use Rattle.program.specs.Programs.{Program, at, takes, Operands, In, Before, Distinct, Formed}
 use Rattle.program.proofs.Operands.{operands_map}
 use Rattle.program.proofs.Orders.{before_head}
-use Rattle.runs.specs.Runs.{out?, arg, value, upd, sent, run_from, nothing, outputs, count_outs, outs, Fits, sends, Meant, RunLaw}
+use Rattle.runs.specs.Runs.{out?, arg, value, upd, sent, run_from, nothing, count_outs, Fits, sends, RunLaw}
 
 pub arg_cong : (h : Bool) (v u : ℕ → ℕ) (k : ℕ) → (h ≡ true → v k ≡ u k) → arg h v k ≡ arg h u k
 arg_cong true v u k f = f refl

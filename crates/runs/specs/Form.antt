@@ -1,5 +1,5 @@
 -- The test for a well-formed program.
-use Rattle.std.specs.Prelude.{ℕ, Bool, true, false, cond, not, ◌&&◌, ◌||◌, List, [], ◌∷◌, Some, None, Option, ◌==◌}
+use Rattle.std.specs.Prelude.{ℕ, Bool, false, cond, not, ◌&&◌, ◌||◌, List, [], ◌∷◌, Some, None, Option, ◌==◌}
 use Rattle.ir.specs.Instructions.{Instr}
 use Rattle.program.specs.Programs.{Program, at, takes, Operands, In, Before, WellFormed}
 

@@ -1,5 +1,5 @@
 -- What the journal's type says of its rows, and what its ghost fields ask of the rows written.
-use Rattle.std.proofs.Common.{◌≡◌, ℕ, ◌+◌, ◌-◌, ◌<◌, ◌≤◌, true, false, cond, ltb, leb, ◌⊎◌, List, [], ◌∷◌, map, length, get_or, set, Some, sym, refl, ap, ◌∙◌, subst, inl, inr, ⊎_elim, arith}
+use Rattle.std.proofs.Common.{◌≡◌, ℕ, ◌+◌, ◌-◌, ◌<◌, ◌≤◌, true, false, ltb, leb, ◌⊎◌, List, [], ◌∷◌, map, length, get_or, set, Some, sym, refl, ap, ◌∙◌, subst, ⊎_elim, arith}
 use Rattle.std.proofs.lemmas.Bool.{cases_lt, eq-eqb, lt-ltb, le-ltb, cond-true, cond-false}
 use Rattle.std.proofs.lemmas.List.{length-map, length-set}
 use Rattle.edits.specs.declared.command.Command.{Command}
@@ -9,7 +9,7 @@ use Rattle.session.specs.declared.journal.Journal.{Journal}
 use Rattle.session.specs.Stack.{stack, top, rest}
 use Rattle.session.specs.Trail.{marked?, room, roomy, noted, kept, Low, High}
 use Rattle.session.specs.Meaning.{trail, marks}
-use Rattle.session.proofs.Stacks.{stack_none, stack_push, stack_pop, length_stack, stack_top, stack_rest, rest_none, marked_head, marked_tail, marked_on, marked_more, marked_rest}
+use Rattle.session.proofs.Stacks.{stack_none, stack_push, stack_pop, length_stack, stack_top, stack_rest, rest_none, marked_tail, marked_on, marked_more, marked_rest}
 
 pub trail_length : (j : Journal) → length (trail j) ≡ j.len
 trail_length j =

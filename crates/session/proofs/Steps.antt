@@ -10,10 +10,10 @@ use Rattle.edits.specs.declared.command.Command.TheVariants.{Make, Link, Unlink,
 use Rattle.edits.specs.Commands.{Edit, edit_of, fault_of, after, Fair}
 use Rattle.edits.specs.Journals.{play}
 use Rattle.session.specs.declared.fault.SessionFault.{SessionFault}
-use Rattle.session.specs.declared.fault.SessionFault.TheVariants.{Store, TooDeep, NotNewest, WrongKind, TooFewRecords}
+use Rattle.session.specs.declared.fault.SessionFault.TheVariants.{TooDeep, NotNewest, WrongKind, TooFewRecords}
 use Rattle.session.specs.declared.mark.Mark.{Mark}
 use Rattle.session.specs.declared.session.Session.{Session}
-use Rattle.session.specs.Copying.{Save, Copying, Step, to, charged, edited, edit_step, open_step, same, close_fault, left_after, accepted, reverted, closed, accept_step, revert_step}
+use Rattle.session.specs.Copying.{Copying, Step, to, charged, edited, edit_step, open_step, same, close_fault, accepted, reverted, closed, accept_step, revert_step}
 use Rattle.session.specs.Stack.{rest}
 use Rattle.session.specs.Trail.{above, below, copies, copying, room, noted, kept, marked?, undone, lowered, closable}
 use Rattle.session.specs.Meaning.{trail, marks, meaning, Stepped}

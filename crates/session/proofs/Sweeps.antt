@@ -1,5 +1,5 @@
 -- A replace, use by use, in the copying session.
-use Rattle.std.proofs.Common.{◌≡◌, ℕ, suc, ◌-◌, ◌<◌, ◌≤◌, Bool, true, false, cond, ltb, List, [], ◌∷◌, length, Some, None, Ok, Err, Option, Result, sym, refl, ap, ◌∙◌, subst, inl, ⊎_elim, arith}
+use Rattle.std.proofs.Common.{◌≡◌, ℕ, suc, ◌-◌, ◌<◌, ◌≤◌, true, false, ltb, List, [], ◌∷◌, length, Some, None, Ok, Err, Result, sym, refl, ap, ◌∙◌, subst, inl, ⊎_elim, arith}
 use mathlib.Core.Bool.{false≢true}
 use Rattle.std.proofs.lemmas.Bool.{ltb-true, le-ltb, lt-ltb, leb-true, le-leb, cond-true, cond-false, cases_lt}
 use Rattle.ir.specs.Operations.{arity}
@@ -7,7 +7,7 @@ use Rattle.program.specs.Programs.{Program, at}
 use Rattle.program.specs.Uses.{uses, least_beyond, position}
 use Rattle.program.specs.Proper.{Proper}
 use Rattle.program.proofs.Uses.{in_uses}
-use Rattle.edits.specs.Commands.{Edit, fault_of, after}
+use Rattle.edits.specs.Commands.{Edit, after}
 use Rattle.edits.specs.Replace.{replace, replace_fault, Replaceable, swap, OneSwap}
 use Rattle.edits.proofs.Positions.{by_position, use_reads}
 use Rattle.edits.proofs.Renaming.{replace_end}

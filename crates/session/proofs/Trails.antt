@@ -1,12 +1,12 @@
 -- A journal with marks does what copies do.
-use Rattle.std.proofs.Common.{◌≡◌, ℕ, zero, suc, ◌+◌, ◌-◌, ◌<◌, ◌≤◌, Bool, true, false, cond, eqb, ltb, List, [], ◌∷◌, ◌++◌, length, take, drop, sym, refl, ap, ◌∙◌, suc-add, zero-add, arith}
+use Rattle.std.proofs.Common.{◌≡◌, ℕ, zero, suc, ◌+◌, ◌-◌, ◌≤◌, Bool, true, List, [], ◌∷◌, ◌++◌, length, take, drop, sym, refl, ap, ◌∙◌, suc-add, zero-add, arith}
 use Rattle.std.proofs.lemmas.List.{drop-drop, length-drop}
 use Rattle.program.specs.Programs.{Program}
 use Rattle.edits.specs.Commands.{Edit, after}
 use Rattle.edits.specs.Journals.{play}
 use Rattle.session.specs.declared.mark.Mark.{Mark}
-use Rattle.session.specs.Copying.{Save, Copying}
-use Rattle.session.specs.Trail.{above, below, copies, copying, kept, marked?, undone, lowered, Low, High}
+use Rattle.session.specs.Copying.{Save}
+use Rattle.session.specs.Trail.{above, below, copies, kept, marked?, undone, lowered, Low, High}
 use Rattle.session.proofs.Stacks.{marked_head, marked_tail}
 
 pub above_push : (e : Edit) (t : List Edit) (a : ℕ) → a ≤ length t → above (e ∷ t) a ≡ e ∷ above t a

@@ -1,5 +1,5 @@
 -- The calls of a session as values, and whole lists of them.
-use Rattle.std.specs.Prelude.{ℕ, Bool, true, false, List, [], ◌∷◌, Ok, Err, Option, Result}
+use Rattle.std.specs.Prelude.{ℕ, Bool, true, false, List, [], ◌∷◌, Ok, Err, Result}
 use Rattle.ir.specs.Instructions.{plain}
 use Rattle.edits.specs.Commands.{Edit, make, link, unlink, unmake, rewrite}
 use Rattle.session.specs.declared.fault.SessionFault.{SessionFault}

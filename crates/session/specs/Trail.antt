@@ -1,5 +1,5 @@
 -- A journal in place of copies: what takes back each edit, newest first, and for each save how many there were then.
-use Rattle.std.specs.Prelude.{◌≡◌, ℕ, ◌-◌, ◌≤◌, Bool, true, false, cond, ◌&&◌, List, [], ◌∷◌, length, take, drop, Some, None, Ok, Err, Option, Result, ◌==◌, nat_le, nat_lt}
+use Rattle.std.specs.Prelude.{◌≡◌, ℕ, ◌-◌, ◌≤◌, Bool, true, cond, ◌&&◌, List, [], ◌∷◌, length, take, drop, Some, None, Ok, Err, Option, Result, ◌==◌, nat_le, nat_lt}
 use Rattle.program.specs.Programs.{Program}
 use Rattle.edits.specs.declared.command.Command.{Command}
 use Rattle.edits.specs.Commands.{Edit, edit_of}

@@ -1,5 +1,5 @@
 -- The text of numbers and of records. Bytes are numbers: 9 is the tab.
-use Rattle.std.specs.Prelude.{ℕ, Bool, true, false, cond, List, [], ◌∷◌, ◌++◌, decimal}
+use Rattle.std.specs.Prelude.{ℕ, List, [], ◌∷◌, ◌++◌, decimal}
 use Rattle.ir.specs.declared.operation.Op.{Op}
 use Rattle.ir.specs.declared.operation.Op.TheVariants.{Constant, Input, Add, Subtract, Multiply, And, Or, Xor, Less, Equal, Pick, Shift, Out}
 use Rattle.ir.specs.Operations.{letter_of}

@@ -1,8 +1,8 @@
-use Rattle.std.proofs.Common.{◌≡◌, ◌≤◌, List, map, length, take, sym, refl, ap, ◌∙◌, subst, arith}
+use Rattle.std.proofs.Common.{◌≡◌, List, map, length, take, sym, ap, ◌∙◌, subst, arith}
 use Rattle.std.proofs.lemmas.List.{take_all}
 use Rattle.session.specs.declared.call.Call.{Call}
 use Rattle.session.specs.Copying.{Copying, fresh}
-use Rattle.session.specs.Calls.{Answer, act_of, answer_of, answers, final}
+use Rattle.session.specs.Calls.{Answer, act_of, answers, final}
 use Rattle.session.specs.Meaning.{meaning}
 use Rattle.history.specs.Law.{Repeats}
 use Rattle.history.proofs.Histories.{repeats}

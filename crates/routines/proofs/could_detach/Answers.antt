@@ -1,6 +1,6 @@
-use Rattle.std.proofs.Common.{◌≡◌, ℕ, is_ok, sym, refl, ap, ◌∙◌, arith}
+use Rattle.std.proofs.Common.{◌≡◌, ℕ, is_ok, ap, ◌∙◌, arith}
 use Rattle.edits.specs.Commands.{unlink}
-use Rattle.session.specs.Copying.{Copying, edit_step, revert_step}
+use Rattle.session.specs.Copying.{Copying, edit_step}
 use Rattle.session.specs.Meaning.{meaning}
 use Rattle.session.specs.Tokens.{handed_back}
 use Rattle.routines.proofs.Holding.{held, taken_back, unheld}

@@ -1,4 +1,4 @@
-use Rattle.std.proofs.Common.{◌≡◌, ℕ, Bool, true, List, ◌∷◌, Ok, Err, Result, sym, refl, ap, ◌∙◌, arith}
+use Rattle.std.proofs.Common.{◌≡◌, ℕ, Bool, true, Ok, Err, Result, refl, ap, ◌∙◌, arith}
 use Rattle.edits.specs.Commands.{unlink}
 use Rattle.session.specs.declared.token.Token.{Token}
 use Rattle.session.specs.Copying.{Copying, edit_step, open_step, accept_step}

@@ -1,6 +1,5 @@
 use Rattle.std.proofs.Common.{ℕ, List, length, refl, ◌∙◌, subst}
 use Rattle.ir.specs.Instructions.{plain}
-use Rattle.linked.specs.LinkedModel.{bodies}
 use Rattle.linked.specs.Uses.{Threaded}
 use Rattle.linked.specs.Slots.{links}
 use Rattle.linked.specs.Making.{RowOpen}

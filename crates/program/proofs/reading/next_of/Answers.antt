@@ -1,4 +1,3 @@
-use Rattle.std.proofs.Common.{◌≡◌}
 use Rattle.program.specs.Faults.{placed_fault}
 use Rattle.program.specs.Readings.{next_of}
 use Rattle.program.proofs.Readings.{ok_value, err_fault, unplaced_none}

@@ -1,4 +1,4 @@
-use Rattle.std.proofs.Common.{◌≡◌, sym, ◌∙◌}
+use Rattle.std.proofs.Common.{◌∙◌}
 use Rattle.ir.specs.Instructions.{plain}
 use Rattle.program.specs.Programs.{at}
 use Rattle.program.specs.Faults.{busy_fault}

@@ -1,7 +1,6 @@
-use Rattle.std.proofs.Common.{◌≡◌, ◌≤◌, true, false, length, Some, None, sym, refl, ap, ◌∙◌, arith, rules}
+use Rattle.std.proofs.Common.{◌≤◌, length, Some, None, ◌∙◌, arith, rules}
 use mathlib.Core.Bool.{false≢true}
 use Rattle.program.specs.Programs.{size}
-use Rattle.runs.specs.Answers.{zeros}
 use Rattle.runs.proofs.Checks.{too_short, form_found}
 use Rattle.runs.proofs.form.check_form.Goals as goal
 

@@ -1,4 +1,4 @@
-use Rattle.std.proofs.Common.{◌≡◌, ◌≤◌, length, Ok, Err, sym, refl, ap, ◌∙◌, arith}
+use Rattle.std.proofs.Common.{◌≤◌, length, Ok, Err, sym, ap, ◌∙◌, arith}
 use Rattle.program.specs.Programs.{at, size}
 use Rattle.runs.specs.declared.fault.RunFault.TheVariants.{ScratchTooShort}
 use Rattle.runs.specs.Answers.{counted, either}

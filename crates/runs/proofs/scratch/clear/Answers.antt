@@ -1,5 +1,5 @@
 use Rattle.std.proofs.Common.{rules}
-use Rattle.std.proofs.lemmas.List.Edits.{fill_none, fill_more}
+use Rattle.std.proofs.lemmas.List.Edits.{fill_more}
 use Rattle.std.proofs.lemmas.List.{drop_all, append-nil}
 use Rattle.runs.proofs.scratch.clear.Goals as goal
 

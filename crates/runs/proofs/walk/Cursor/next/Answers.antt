@@ -1,5 +1,4 @@
-use Rattle.std.proofs.Common.{◌≡◌, sym, refl, ap, ◌∙◌, subst}
-use Rattle.ir.specs.Instructions.{plain}
+use Rattle.std.proofs.Common.{sym, refl, ap, ◌∙◌, subst}
 use Rattle.program.specs.Readings.{next_of}
 use Rattle.runs.specs.Walks.{from, Stands, Step}
 use Rattle.runs.proofs.Walks.{step}

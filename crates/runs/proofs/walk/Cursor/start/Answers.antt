@@ -1,4 +1,4 @@
-use Rattle.std.proofs.Common.{◌≡◌, sym, refl, ap, ◌∙◌, subst}
+use Rattle.std.proofs.Common.{sym, ap, ◌∙◌, subst}
 use Rattle.runs.specs.Walks.{from, Stands}
 use Rattle.runs.proofs.Walks.{from_first, first_stands}
 use Rattle.runs.proofs.walk.Cursor.start.Goals as goal

@@ -1,4 +1,4 @@
-use Rattle.std.proofs.Common.{◌≡◌, sym, ◌∙◌}
+use Rattle.std.proofs.Common.{sym, ◌∙◌}
 use Rattle.session.specs.Meaning.{trail, marks}
 use Rattle.session.proofs.Rows.{trail_length, marks_length, no_mark, roomy_free, roomy_some}
 use Rattle.session.proofs.journal.Journal.has_room.Goals as goal

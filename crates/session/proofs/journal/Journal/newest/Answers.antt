@@ -1,4 +1,4 @@
-use Rattle.std.proofs.Common.{sym, ap, arith, rules}
+use Rattle.std.proofs.Common.{sym, ap, arith}
 use Rattle.session.specs.Stack.{top}
 use Rattle.session.proofs.Rows.{top_mark, no_mark}
 use Rattle.session.proofs.journal.Journal.newest.Goals as goal

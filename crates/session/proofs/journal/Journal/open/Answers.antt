@@ -1,7 +1,6 @@
-use Rattle.std.proofs.Common.{Bool, cond, ltb, List, ◌∷◌, length, sym, refl, ap, ◌∙◌}
+use Rattle.std.proofs.Common.{ltb, ◌∷◌, sym, refl, ap, ◌∙◌}
 use Rattle.std.proofs.lemmas.Bool.{lt-ltb, le-ltb}
-use Rattle.session.specs.declared.mark.Mark.{Mark}
-use Rattle.session.specs.Meaning.{trail, marks}
+use Rattle.session.specs.Meaning.{marks}
 use Rattle.session.proofs.Rows.{trail_length, marks_length, open_marks, open_fields}
 use Rattle.session.proofs.journal.Journal.open.Goals as goal
 

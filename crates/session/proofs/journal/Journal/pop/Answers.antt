@@ -1,4 +1,4 @@
-use Rattle.std.proofs.Common.{sym, refl, ap, ◌∙◌, subst}
+use Rattle.std.proofs.Common.{sym, refl, subst}
 use Rattle.session.specs.Stack.{rest}
 use Rattle.session.specs.Trail.{Low}
 use Rattle.session.specs.Meaning.{trail, marks}

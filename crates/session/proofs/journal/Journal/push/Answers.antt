@@ -1,4 +1,4 @@
-use Rattle.std.proofs.Common.{◌≡◌, ◌<◌, ◌≤◌, length, sym, refl, ap, ◌∙◌, arith}
+use Rattle.std.proofs.Common.{◌<◌, ◌≤◌, length, sym, refl, ◌∙◌, arith}
 use Rattle.edits.specs.Commands.{edit_of}
 use Rattle.session.specs.Meaning.{trail, marks}
 use Rattle.session.proofs.Rows.{trail_length, marks_length, no_mark, push_fields, push_trail, room_free, room_full, room_left}

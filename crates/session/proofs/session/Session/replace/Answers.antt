@@ -1,10 +1,10 @@
-use Rattle.std.proofs.Common.{◌≡◌, length, None, Ok, Err, sym, refl, ap, ◌∙◌, subst}
+use Rattle.std.proofs.Common.{◌≡◌, length, None, Err, sym, refl, ap, ◌∙◌, subst}
 use mathlib.Core.Bool.{false≢true}
 use Rattle.program.specs.Uses.{uses}
-use Rattle.edits.specs.Replace.{replace_fault, Replaceable}
+use Rattle.edits.specs.Replace.{replace_fault}
 use Rattle.edits.proofs.Swaps.{replace_accepted}
 use Rattle.session.specs.declared.fault.SessionFault.TheVariants.{TooFewRecords}
-use Rattle.session.specs.Copying.{Copying, replace_step, to}
+use Rattle.session.specs.Copying.{replace_step}
 use Rattle.session.specs.Trail.{copying}
 use Rattle.session.specs.Sweeping.{Enough, Ready, swept}
 use Rattle.session.specs.Meaning.{trail, marks, meaning}

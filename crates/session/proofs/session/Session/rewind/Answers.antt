@@ -1,4 +1,4 @@
-use Rattle.std.proofs.Common.{◌≡◌, sym, ap, ◌∙◌, subst}
+use Rattle.std.proofs.Common.{sym, ap, ◌∙◌, subst}
 use Rattle.edits.specs.Commands.{edit_of}
 use Rattle.session.specs.Trail.{undone, lowered, High}
 use Rattle.session.specs.Meaning.{trail, marks}

@@ -1,4 +1,4 @@
-use Rattle.std.proofs.Common.{◌≡◌, ℕ, ◌<◌, ◌≤◌, List, ◌∷◌, length, sym, refl, ap, ◌∙◌, subst}
+use Rattle.std.proofs.Common.{◌≡◌, ℕ, ◌<◌, ◌≤◌, length, sym, ap, ◌∙◌, subst}
 use Rattle.ir.specs.Operations.{arity}
 use Rattle.ir.specs.Instructions.{plain}
 use Rattle.program.specs.Programs.{at}
