@@ -3,7 +3,7 @@
 
 usage: python3 tools/respell.py [--list]      at the top of the repository; --list prints the names and changes nothing
 
-It was run once, when the repository was brought to a newer Rattle. Names that Rattle makes (goals, steps) keep their dashes; names of functions in src/ are never changed.
+It served to bring the repository to a newer Rattle (docs/PORT.md). Names that Rattle makes (goals, steps) keep their dashes; names of functions in src/ are never changed. Where two names would fall together, it says so.
 """
 
 import glob
@@ -17,13 +17,9 @@ MODULE_ALIAS = re.compile(r"^\s*(?:ghost )?use [\w.]+ as ([a-z]+)\b")
 FIELD = re.compile(r"^\s+pub\s+([^\s:.(){}]*-[^\s:.(){}]*)\s*:")
 LET = re.compile(r"\blet\s+([^\s:.(){}=]*-[^\s:.(){}=]*)\s*[:=]")
 GOAL = re.compile(r":\s*(?:goal|need)\.")
-# a name whose plain respelling is taken: by a function of src/ in scope beside it, or by a word of the library
-TAKEN = {}
 
 
 def respelled(name):
-    if name in TAKEN:
-        return TAKEN[name]
     parts = [p for p in name.replace("getD", "get_or").split("-") if p]
     if name[0].isupper():
         return "".join(p[0].upper() + p[1:] for p in parts)

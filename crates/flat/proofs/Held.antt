@@ -9,7 +9,7 @@ use Rattle.flat.specs.declared.flat.Flat.{Flat}
 use Rattle.flat.specs.FlatModel.{Filled, Low, Apart, Sound, flat_program}
 use Rattle.flat.specs.Keeping.{proper_flat}
 
--- the ghost fields, in their order
+-- what the type keeps of its fields
 abbrev Fields : List FlatCell → Type 0
 Fields xs = record { few : length xs ≤ 1024; filled : Filled xs; low : Low xs; apart : Apart xs; tied : Tied (flat_program xs) }
 

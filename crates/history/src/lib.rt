@@ -57,7 +57,7 @@ pub fn enter_both<S: Store, T: Store, M, N>(
     again: &[Call],
     got: &mut [Reply],
 ) -> Result<(Session<S, M>, Session<T, N>), ((S, M), (T, N))>
-    ensures { EnteredBoth S.Store.program T.Store.program first second calls.now again.now (replies.old, replies.new) (got.old, got.new) result }
+    ensures { EnteredBoth S.program T.program first second calls.now again.now (replies.old, replies.new) (got.old, got.new) result }
 {
     if replies.len() < calls.len() || got.len() < again.len() {
         return Err((first, second));

@@ -15,7 +15,7 @@ use Rattle.linked.specs.States.{proper_linked}
 use Rattle.linked.specs.Sound.{Sound}
 use Rattle.linked.proofs.Ordering.{ranged_reads}
 
--- the ghost fields, in their order
+-- what the type keeps of its fields
 abbrev Fields : List LinkedCell → ℕ → ℕ → Type 0
 Fields xs f l = record { few : length xs ≤ 1024; forward : Forward xs f; backward : Backward xs f l; marked : Marked xs f; strung : Strung xs; tied : Tied (linked_program xs f) }
 

@@ -20,7 +20,7 @@ trail_length j =
 pub marks_length : (j : Journal) → length (marks j) ≡ j.depth
 marks_length j = let f = j.shallow in let s = j.wide in length_stack j.marks j.depth (omega arith)
 
--- the ghost fields, in their order
+-- what the type keeps of its fields
 abbrev pub Fields : List Command → ℕ → List Mark → ℕ → Type 0
 Fields es n ms d = record { sized : length es ≡ 512; few : n ≤ 512; wide : length ms ≡ 8; shallow : d ≤ 8; marked : marked? n (stack ms d) ≡ true }
 

@@ -39,10 +39,10 @@ impl Journal {
         need as usize <= 512 - self.len
     }
 
-    // Notes a record while a save is present; false where all are in use.
-    pub(crate) fn push(&mut self, record: Command) -> bool
+    // Notes what takes an edit back while a save is present; false where all records are in use.
+    pub(crate) fn push(&mut self, back: Command) -> bool
         ensures room { result ≡ room (marks self.old) (trail self.old) }
-        ensures records { trail self.new ≡ noted (marks self.old) (edit_of «record») (trail self.old) }
+        ensures records { trail self.new ≡ noted (marks self.old) (edit_of back) (trail self.old) }
         ensures saves { marks self.new ≡ marks self.old }
     {
         if self.depth == 0 {
@@ -52,7 +52,7 @@ impl Journal {
         if at >= 512 {
             return false;
         }
-        self.entries[at] = record;
+        self.entries[at] = back;
         self.len = at + 1;
         true
     }
