@@ -1,5 +1,4 @@
 pub mod Moves
-pub mod Positions
 pub mod Undoing
 pub mod Journals
 pub mod Ascending

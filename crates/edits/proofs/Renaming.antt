@@ -11,7 +11,7 @@ use Rattle.program.proofs.Operands.{at_position}
 use Rattle.program.proofs.Uses.{unused_none}
 use Rattle.program.proofs.Keeping.{never_read}
 use Rattle.edits.specs.Replace.{swapped, rename, rename_cell, swap_at, ReplaceEnd}
-use Rattle.edits.proofs.Positions.{three, by_position}
+use Rattle.program.proofs.Positions.{three, by_position}
 
 -- ---- at one position
 

@@ -13,7 +13,7 @@ use Rattle.program.specs.Uses.{uses, Precedes, Ascending, Among, position, Use}
 use Rattle.program.specs.Faults.{unless, range_fault, rewrite_fault}
 use Rattle.program.specs.Commands.{put}
 use Rattle.program.specs.Proper.{Proper}
-use Rattle.program.proofs.Faults.{or_left_none, or_right_none, unless_none}
+use Rattle.program.proofs.Faults.{or_left_none, or_right_none, unless_none, settles}
 use Rattle.program.proofs.Operands.{operands_from}
 use Rattle.program.proofs.Places.{has_out, out_has}
 use Rattle.program.proofs.Uses.{all_among, from_ascends, in_uses, uses_in}
@@ -21,8 +21,8 @@ use Rattle.program.proofs.Accepting.{commands_accepted, busy_inside, busy_accept
 use Rattle.program.proofs.Keeping.{set_case, still_busy}
 use Rattle.edits.specs.Commands.{after}
 use Rattle.edits.specs.Replace.{rename_cell, replace, replace_fault, Replaceable, ReplaceAccepted, swap_at, swap, OneSwap, ReplaceStep, ReplaceLaw}
-use Rattle.edits.proofs.Positions.{operand_at, use_reads, reads_use}
-use Rattle.edits.proofs.Undoing.{busy_is, settles, edits_keep_proper}
+use Rattle.program.proofs.Positions.{operand_at, use_reads, reads_use}
+use Rattle.edits.proofs.Undoing.{busy_is, edits_keep_proper}
 use Rattle.edits.proofs.Ascending.{not_itself, ascending_one}
 use Rattle.edits.proofs.Renaming.{swap_each, swap_shapely, swap_same, swap_other, rename_swap, replace_end}
 

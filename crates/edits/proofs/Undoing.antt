@@ -5,19 +5,19 @@ use Rattle.std.specs.List.{insert, remove, slice_get}
 use Rattle.std.proofs.lemmas.Bool.{both_ways}
 use Rattle.std.proofs.lemmas.List.{get_or-set_same, get_or-set_other, length-set, set-set, set-get_or}
 use Rattle.ir.specs.Instructions.{Instr, Shapely}
-use Rattle.program.specs.declared.fault.StoreFault.{StoreFault}
 use Rattle.program.specs.Programs.{Program, Cell, size, cell, busy, Busy, held, at, index_of, Operands}
 use Rattle.program.specs.Faults.{make_fault, link_fault, placed_fault, unmake_fault, rewrite_fault}
-use Rattle.program.specs.Commands.{put, reorder, settled, anchor_place}
+use Rattle.program.specs.Commands.{put, reorder, anchor_place}
 use Rattle.program.specs.Readings.{next_of}
 use Rattle.program.specs.Proper.{Proper}
 use Rattle.program.specs.Laws.{CanMake, CanRewrite, Anchored, CanLink, CanUnlink, CanUnmake}
+use Rattle.program.proofs.Faults.{settles}
 use Rattle.program.proofs.Operands.{operands_map}
 use Rattle.program.proofs.Accepting.{commands_accepted, busy_inside}
 use Rattle.program.proofs.Keeping.{commands_keep_proper, set_case, still_busy, unlinked_proper}
 use Rattle.edits.specs.Commands.{Edit, make, link, unlink, unmake, rewrite, fault_of, after, opposite, Fair, Undone, EditsUndone, EditsKeepProper}
 use Rattle.edits.proofs.Moves.{in_inserted_here, taken_out, put_back, out_then, Stands, next_stands}
-use Rattle.edits.proofs.Positions.{no_use}
+use Rattle.program.proofs.Positions.{no_use}
 
 free_is : (c : Cell) → busy c ≡ false → c ≡ None
 free_is None e = refl
@@ -89,9 +89,6 @@ module _ (p : Program) (n : ℕ) where
 
     linked_back : CanUnlink p n → insert rest (anchor_place (reorder p rest) (next_of p n)) n ≡ p.order
     linked_back c = ap (λ i. insert rest i n) (anchor c).1 ∙ put_back n p.order c.placed
-
-pub settles : (o : Option StoreFault) (new old : Program) → o ≡ None → settled o new old ≡ new
-settles o new old e = ap (λ z. settled z new old) e
 
 -- the edit leads to q, and its opposite from there to p
 undone_by :

@@ -32,9 +32,8 @@ pub fn apply<S: Store>(store: &mut S, command: Command) -> Result<(), StoreFault
 }
 
 // What takes a command back, told from the store before it.
-pub fn opposite<S: Store>(store: &mut S, command: Command) -> Command
-    ensures answer { edit_of result ≡ opposite_of (S.program store.old) (edit_of command) }
-    ensures after { S.program store.new ≡ S.program store.old }
+pub fn opposite<S: Store>(store: &S, command: Command) -> Command
+    ensures { edit_of result ≡ opposite_of (S.program store.now) (edit_of command) }
 {
     match command {
         Command::Make(n, _) => Command::Unmake(n),

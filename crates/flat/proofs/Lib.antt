@@ -6,8 +6,7 @@ pub mod Linking
 pub mod Unlinking
 pub mod Writing
 pub mod Fresh
-pub mod Loops
+pub mod Counting
 pub mod Neighbours
 pub mod Usage
-pub mod Knowing
 pub mod Held

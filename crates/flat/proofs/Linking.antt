@@ -10,7 +10,7 @@ use Rattle.program.specs.Commands.{reorder, anchor_place, after_link}
 use Rattle.flat.specs.declared.cells.FlatCell.{FlatCell}
 use Rattle.flat.specs.declared.cells.FlatCell.TheVariants.{Vacant}
 use Rattle.flat.specs.FlatModel.{content, rank_of, weight, rank_at, placed_count, order_of, flat_program, rerank, up, Sound}
-use Rattle.flat.proofs.Accepted.{settled_none, link_within, link_busy, link_rank}
+use Rattle.flat.proofs.Accepted.{After, accepted, link_within, link_busy, link_rank}
 use Rattle.flat.proofs.Orders.{Ordered, ordered_from_sound, index_bound}
 use Rattle.flat.proofs.Moving.{moved, unmapped, rank_here, rank_else, count_moved, sound_moved, program_moved}
 
@@ -107,7 +107,7 @@ module _ (xs : List FlatCell) (n at : ℕ) (x : FlatCell) (within : n < length x
     ordered_linked = record { count = count_linked; low = low_linked; ranked = ranked_linked; placed = placed_linked }
 
 -- the cells after an accepted link
-module _ (xs : List FlatCell) (s : Sound xs) (n : ℕ) (anchor : Option ℕ) (none : None ≡ link_fault (flat_program xs) n anchor) where
+module _ (xs : List FlatCell) (s : Sound xs) (n : ℕ) (anchor : Option ℕ) (none : link_fault (flat_program xs) n anchor ≡ None) where
   abbrev p : Program
   p = flat_program xs
 
@@ -126,11 +126,10 @@ module _ (xs : List FlatCell) (s : Sound xs) (n : ℕ) (anchor : Option ℕ) (no
         ordered_linked xs n at x within (link_rank xs n s anchor none) (rank (ap (λ c. busy (content c)) is ∙ link_busy xs n anchor none)) (order_of xs)
         (ordered_from_sound xs s) (omega arith)
 
-    pub linked_cells : Sound (set ys n x) × (flat_program (set ys n x) ≡ after_link p n anchor)
-    linked_cells = (
-      subst (λ l. Sound (set l n x)) (sym opened) (sound_moved (up at) xs n x within (insert (order_of xs) at n) ordered s.few),
-      settled_none (link_fault p n anchor) (flat_program (set ys n x)) (reorder p (insert (order_of xs) (anchor_place p anchor) n)) p none
-          (ap (λ l. flat_program (set l n x)) opened
-          ∙ program_moved (up at) xs n x within (insert (order_of xs) at n) ordered (same ∙ ap content is)
-          ∙ ap (λ k. reorder p (insert (order_of xs) k n)) place),
-    )
+    pub linked_cells : After (set ys n x) (after_link p n anchor)
+    linked_cells =
+        let new : Program = reorder p (insert (order_of xs) (anchor_place p anchor) n) in
+        subst (λ l. After (set l n x) (after_link p n anchor)) (sym opened)
+        (accepted (link_fault p n anchor) (set (map (rerank (up at)) xs) n x) new p none
+        (program_moved (up at) xs n x within (insert (order_of xs) at n) ordered (same ∙ ap content is) ∙ ap (λ k. reorder p (insert (order_of xs) k n)) place)
+        (sound_moved (up at) xs n x within (insert (order_of xs) at n) ordered s.few))

@@ -4,13 +4,14 @@ use Rattle.std.proofs.lemmas.List.{length-map}
 use Rattle.std.proofs.lemmas.Bool.{lt-ltb, le-ltb}
 use Rattle.program.specs.declared.state.State.TheVariants.{Placed, Loose}
 use Rattle.program.specs.Programs.{index_of, has, within, state_by, state_of}
+use Rattle.program.specs.Readings.{found}
 use Rattle.flat.specs.declared.cells.FlatCell.{FlatCell}
 use Rattle.flat.specs.declared.cells.FlatCell.TheVariants.{Vacant, Idle, Ranked}
 use Rattle.flat.specs.FlatModel.{content, rank_of, rank_at, order_of, flat_program, tag, Sound}
 use Rattle.flat.specs.Keeping.{cell_flat, length_order}
 use Rattle.flat.proofs.Orders.{index_ranked, index_unranked}
 
-pub within_flat : (xs : List FlatCell) (n : ℕ) → within (flat_program xs) n ≡ ltb n (length xs)
+within_flat : (xs : List FlatCell) (n : ℕ) → within (flat_program xs) n ≡ ltb n (length xs)
 within_flat xs n = ap (ltb n) (length-map xs content)
 
 module _ (xs : List FlatCell) (s : Sound xs) (n : ℕ) where
@@ -34,3 +35,6 @@ module _ (xs : List FlatCell) (s : Sound xs) (n : ℕ) where
         | Ranked r k ↦ (λ e. ap (λ b. cond b Placed Loose) (has_ranked k (ap rank_of e)))
       ]
       in ap (λ o. state_by o (has n (order_of xs))) (cell_flat xs n) ∙ by_cell (get_or xs n Vacant) refl
+
+  pub found_flat : found (flat_program xs) n ≡ cond (ltb n (length xs)) (Some (tag (get_or xs n Vacant))) None
+  found_flat = ap (λ b. cond b (Some (state_of (flat_program xs) n)) None) (within_flat xs n) ∙ ap (λ s. cond (ltb n (length xs)) (Some s) None) state_flat

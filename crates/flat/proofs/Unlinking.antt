@@ -10,7 +10,7 @@ use Rattle.program.specs.Commands.{reorder, after_unlink}
 use Rattle.flat.specs.declared.cells.FlatCell.{FlatCell}
 use Rattle.flat.specs.declared.cells.FlatCell.TheVariants.{Vacant}
 use Rattle.flat.specs.FlatModel.{content, rank_of, weight, rank_at, placed_count, order_of, flat_program, rerank, down, Sound}
-use Rattle.flat.proofs.Accepted.{settled_none, unlink_within, unlink_rank}
+use Rattle.flat.proofs.Accepted.{After, accepted, unlink_within, unlink_rank}
 use Rattle.flat.proofs.Orders.{Ordered, ordered_from_sound}
 use Rattle.flat.proofs.Moving.{moved, unmapped, rank_here, rank_else, count_moved, sound_moved, program_moved}
 
@@ -110,7 +110,7 @@ module _ (xs : List FlatCell) (n at : ℕ) (x : FlatCell) (within : n < length x
     ordered_unlinked = record { count = count_unlinked; low = low_unlinked; ranked = ranked_unlinked; placed = placed_unlinked }
 
 -- the cells after an accepted unlink
-module _ (xs : List FlatCell) (s : Sound xs) (n : ℕ) (none : None ≡ placed_fault (flat_program xs) n) where
+module _ (xs : List FlatCell) (s : Sound xs) (n : ℕ) (none : placed_fault (flat_program xs) n ≡ None) where
   abbrev p : Program
   p = flat_program xs
 
@@ -123,11 +123,10 @@ module _ (xs : List FlatCell) (s : Sound xs) (n : ℕ) (none : None ≡ placed_f
     ordered =
         ordered_unlinked xs n at x within (unlink_rank xs n s none ∙ ap Some (sym place)) rank (order_of xs) (ordered_from_sound xs s)
 
-    pub unlinked_cells : Sound (set ys n x) × (flat_program (set ys n x) ≡ after_unlink p n)
-    unlinked_cells = (
-      subst (λ l. Sound (set l n x)) (sym closed) (sound_moved (down at) xs n x within (remove (order_of xs) at) ordered s.few),
-      settled_none (placed_fault p n) (flat_program (set ys n x)) (reorder p (remove (order_of xs) (index_of n (order_of xs)))) p none
-          (ap (λ l. flat_program (set l n x)) closed
-          ∙ program_moved (down at) xs n x within (remove (order_of xs) at) ordered (same ∙ ap content is)
-          ∙ ap (λ k. reorder p (remove (order_of xs) k)) place),
-    )
+    pub unlinked_cells : After (set ys n x) (after_unlink p n)
+    unlinked_cells =
+        let new : Program = reorder p (remove (order_of xs) (index_of n (order_of xs))) in
+        subst (λ l. After (set l n x) (after_unlink p n)) (sym closed)
+        (accepted (placed_fault p n) (set (map (rerank (down at)) xs) n x) new p none
+        (program_moved (down at) xs n x within (remove (order_of xs) at) ordered (same ∙ ap content is) ∙ ap (λ k. reorder p (remove (order_of xs) k)) place)
+        (sound_moved (down at) xs n x within (remove (order_of xs) at) ordered s.few))

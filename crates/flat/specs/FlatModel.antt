@@ -1,5 +1,5 @@
 -- What the cells of the flat store stand for, and which cells stand for a program.
-use Rattle.std.specs.Prelude.{◌≡◌, ℕ, suc, ◌+◌, ◌-◌, ◌<◌, ◌≤◌, Bool, false, cond, ◌&&◌, List, [], ◌∷◌, map, length, Some, None, Option, ◌==◌, nat_le, nat_lt, slice_index_or}
+use Rattle.std.specs.Prelude.{◌≡◌, ℕ, suc, ◌+◌, ◌-◌, ◌<◌, ◌≤◌, Bool, false, cond, List, [], ◌∷◌, map, length, Some, None, Option, ◌==◌, nat_le, nat_lt, slice_index_or}
 use Rattle.std.specs.List.{range_with_len}
 use Rattle.ir.specs.Instructions.{plain}
 use Rattle.program.specs.declared.state.State.{State}
@@ -99,6 +99,6 @@ up at k = cond (nat_le at k) (k + 1) k
 abbrev pub down : ℕ → ℕ → ℕ
 down at k = cond (nat_lt at k) (k - 1) k
 
--- the use y of v, where the operand x at its position is there and is v
-abbrev pub one_use : Bool → ℕ → ℕ → ℕ × ℕ → List (ℕ × ℕ)
-one_use present x v y = cond (present && x == v) (y ∷ []) []
+-- the use y of v, where the operand at its position is there and is v
+abbrev pub one_use : Option ℕ → ℕ → ℕ × ℕ → List (ℕ × ℕ)
+one_use x v y = cond (is_rank v x) (y ∷ []) []

@@ -1,115 +1,75 @@
-// The five commands, as `Store` has them, and the clearing of cells.
-ghost use Rattle.std.specs.Prelude.{◌≡◌, length, replicate, Some};
+// What the five commands do to the cells, once the checks allow it, and the clearing of cells.
+ghost use Rattle.std.specs.Prelude.{◌≡◌, length, replicate, None};
 ghost use Rattle.ir.specs.Instructions.{plain};
 ghost use Rattle.program.specs.Faults.{make_fault, link_fault, placed_fault, unmake_fault, rewrite_fault};
-ghost use Rattle.program.specs.Commands.{verdict, after_make, after_link, after_unlink, after_unmake, after_rewrite};
+ghost use Rattle.program.specs.Commands.{after_make, after_link, after_unlink, after_unmake, after_rewrite};
 ghost use Rattle.flat.specs.declared.cells.FlatCell.TheVariants.{Vacant};
-ghost use Rattle.flat.specs.FlatModel.{Sound, flat_program, content, rank_of};
+ghost use Rattle.flat.specs.FlatModel.{Sound, flat_program};
 
-use crate::cells::FlatCell;
-use crate::lookup::cell_at;
+use crate::cells::{FlatCell, cell_at, rerank};
 use crate::places::{place_for, place_of};
-use crate::{faults, ranks};
 use ir::instruction::Record;
-use program::fault::StoreFault;
 
+// Makes every number free.
 pub(crate) fn clear(cells: &mut [FlatCell])
     ensures { cells.new ≡ replicate (length cells.old) Vacant }
 {
-    for i in 0..cells.len() {
-        cells[i] = FlatCell::Vacant;
-    }
+    cells.fill(FlatCell::Vacant);
 }
 
-pub(crate) fn make(cells: &mut [FlatCell], n: u32, what: Record) -> Result<(), StoreFault>
-    requires { Sound cells.old }
-    ensures answer { result ≡ verdict (make_fault (flat_program cells.old) n (plain what)) }
+// Gives a free number a record; it is then loose.
+pub(crate) fn make(cells: &mut [FlatCell], n: u32, what: Record)
+    requires sound { Sound cells.old }
+    requires allowed { make_fault (flat_program cells.old) n (plain what) ≡ None }
     ensures after { flat_program cells.new ≡ after_make (flat_program cells.old) n (plain what) }
     ensures sound { Sound cells.new }
 {
-    match faults::make_fault(cells, n, what) {
-        Some(f) => Err(f),
-        None => {
-            cells[n as usize] = FlatCell::Idle(what);
-            Ok(())
-        }
-    }
+    cells[n as usize] = FlatCell::Idle(what);
 }
 
-pub(crate) fn link(cells: &mut [FlatCell], n: u32, anchor: Option<u32>) -> Result<(), StoreFault>
-    requires { Sound cells.old }
-    ensures answer { result ≡ verdict (link_fault (flat_program cells.old) n anchor) }
+// Puts a loose number before a placed anchor, or at the end.
+pub(crate) fn link(cells: &mut [FlatCell], n: u32, anchor: Option<u32>)
+    requires sound { Sound cells.old }
+    requires allowed { link_fault (flat_program cells.old) n anchor ≡ None }
     ensures after { flat_program cells.new ≡ after_link (flat_program cells.old) n anchor }
     ensures sound { Sound cells.new }
 {
-    match faults::link_fault(cells, n, anchor) {
-        Some(f) => Err(f),
-        None => {
-            let at = place_for(cells, anchor);
-            let cell = cell_at(cells, n);
-            ranks::open_rank(cells, at);
-            cells[n as usize] = ranks::ranked(cell, at);
-            Ok(())
-        }
-    }
+    let at = place_for(cells, anchor);
+    let cell = cell_at(cells, n);
+    rerank(cells, |k| if at <= k { k + 1 } else { k });
+    cells[n as usize] = cell.ranked(at);
 }
 
-pub(crate) fn unlink(cells: &mut [FlatCell], n: u32) -> Result<(), StoreFault>
-    requires { Sound cells.old }
-    ensures answer { result ≡ verdict (placed_fault (flat_program cells.old) n) }
+// Makes a placed number loose.
+pub(crate) fn unlink(cells: &mut [FlatCell], n: u32)
+    requires sound { Sound cells.old }
+    requires allowed { placed_fault (flat_program cells.old) n ≡ None }
     ensures after { flat_program cells.new ≡ after_unlink (flat_program cells.old) n }
     ensures sound { Sound cells.new }
 {
-    match faults::placed_fault(cells, n) {
-        Some(f) => Err(f),
-        None => {
-            let at = place_of(cells, n);
-            let cell = cell_at(cells, n);
-            ranks::close_rank(cells, at);
-            cells[n as usize] = ranks::unranked(cell);
-            Ok(())
-        }
-    }
+    let at = place_of(cells, n);
+    let cell = cell_at(cells, n);
+    rerank(cells, |k| if at < k { k - 1 } else { k });
+    cells[n as usize] = cell.unranked();
 }
 
-pub(crate) fn unmake(cells: &mut [FlatCell], n: u32) -> Result<(), StoreFault>
-    requires { Sound cells.old }
-    ensures answer { result ≡ verdict (unmake_fault (flat_program cells.old) n) }
+// Makes a loose, unused number free.
+pub(crate) fn unmake(cells: &mut [FlatCell], n: u32)
+    requires sound { Sound cells.old }
+    requires allowed { unmake_fault (flat_program cells.old) n ≡ None }
     ensures after { flat_program cells.new ≡ after_unmake (flat_program cells.old) n }
     ensures sound { Sound cells.new }
 {
-    match faults::unmake_fault(cells, n) {
-        Some(f) => Err(f),
-        None => {
-            cells[n as usize] = FlatCell::Vacant;
-            Ok(())
-        }
-    }
+    cells[n as usize] = FlatCell::Vacant;
 }
 
-// The cell with another record, at the rank that it has.
-fn rewritten(cell: FlatCell, what: Record) -> FlatCell
-    ensures content { content result ≡ Some (plain what) }
-    ensures rank { rank_of result ≡ rank_of cell }
-{
-    match cell {
-        FlatCell::Ranked(_, k) => FlatCell::Ranked(what, k),
-        _ => FlatCell::Idle(what),
-    }
-}
-
-pub(crate) fn rewrite(cells: &mut [FlatCell], n: u32, what: Record) -> Result<(), StoreFault>
-    requires { Sound cells.old }
-    ensures answer { result ≡ verdict (rewrite_fault (flat_program cells.old) n (plain what)) }
+// Gives a number that is not free another record.
+pub(crate) fn rewrite(cells: &mut [FlatCell], n: u32, what: Record)
+    requires sound { Sound cells.old }
+    requires allowed { rewrite_fault (flat_program cells.old) n (plain what) ≡ None }
     ensures after { flat_program cells.new ≡ after_rewrite (flat_program cells.old) n (plain what) }
     ensures sound { Sound cells.new }
 {
-    match faults::rewrite_fault(cells, n, what) {
-        Some(f) => Err(f),
-        None => {
-            let cell = cell_at(cells, n);
-            cells[n as usize] = rewritten(cell, what);
-            Ok(())
-        }
-    }
+    let cell = cell_at(cells, n);
+    cells[n as usize] = cell.rewritten(what);
 }

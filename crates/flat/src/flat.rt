@@ -5,13 +5,16 @@ ghost use Rattle.program.specs.Proper.{Tied};
 ghost use Rattle.flat.specs.FlatModel.{Filled, Low, Apart, flat_program};
 ghost use Rattle.flat.specs.Keeping.{proper_flat};
 
-use crate::cells::FlatCell;
-use crate::{commands, readings};
+use crate::cells::{FlatCell, cell_at};
+use crate::commands;
+use crate::places::{count_placed, number_at, number_before, place_of};
+use crate::uses::{count_all, least_use};
 use ir::instruction::Record;
+use program::checks;
 use program::fault::StoreFault;
+use program::look::Look;
 use program::state::State;
 use program::store::Store;
-use std::mem;
 
 // The cell at each index is that of the number. The ghost fields hold of every store: its cells are at most 1024,
 // its ranks are 0 to one below the count of placed numbers, each once, and no operand is free or the instruction itself.
@@ -31,113 +34,101 @@ impl<'a> Flat<'a> {
         ensures { flat_program result.cells.now ≡ new_program (min (length cells.old) 1024) }
     {
         let n = cells.len().min(1024);
-        let part = &mut cells[0..n];
+        let part = &mut cells[..n];
         commands::clear(part);
         Flat { cells: part }
+    }
+}
+
+// What the checks ask of the store.
+impl<'a> Look for Flat<'a> {
+    ghost program = { λ s. flat_program s.cells.now };
+
+    fn find(&self, n: u32) -> Option<State> {
+        self.cells.get(n as usize).map(|cell| cell.state())
+    }
+
+    fn is_unused(&self, n: u32) -> bool {
+        least_use(self.cells, n, None).is_none()
     }
 }
 
 impl<'a> Store for Flat<'a> {
     ghost program = { λ s. flat_program s.cells.now };
 
-    ghost proper = { λ s. proper_flat s.cells.now s.few s.filled s.tied };
-
     fn make(&mut self, n: u32, what: Record) -> Result<(), StoreFault> {
-        let cells = mem::replace(&mut self.cells, &mut []);
-        let r = commands::make(cells, n, what);
-        self.cells = cells;
-        r
+        checks::make(self, n, what)?;
+        commands::make(self.cells, n, what);
+        Ok(())
     }
 
     fn link(&mut self, n: u32, anchor: Option<u32>) -> Result<(), StoreFault> {
-        let cells = mem::replace(&mut self.cells, &mut []);
-        let r = commands::link(cells, n, anchor);
-        self.cells = cells;
-        r
+        checks::link(self, n, anchor)?;
+        commands::link(self.cells, n, anchor);
+        Ok(())
     }
 
     fn unlink(&mut self, n: u32) -> Result<(), StoreFault> {
-        let cells = mem::replace(&mut self.cells, &mut []);
-        let r = commands::unlink(cells, n);
-        self.cells = cells;
-        r
+        checks::placed(self, n)?;
+        commands::unlink(self.cells, n);
+        Ok(())
     }
 
     fn unmake(&mut self, n: u32) -> Result<(), StoreFault> {
-        let cells = mem::replace(&mut self.cells, &mut []);
-        let r = commands::unmake(cells, n);
-        self.cells = cells;
-        r
+        checks::unmake(self, n)?;
+        commands::unmake(self.cells, n);
+        Ok(())
     }
 
     fn rewrite(&mut self, n: u32, what: Record) -> Result<(), StoreFault> {
-        let cells = mem::replace(&mut self.cells, &mut []);
-        let r = commands::rewrite(cells, n, what);
-        self.cells = cells;
-        r
+        checks::rewrite(self, n, what)?;
+        commands::rewrite(self.cells, n, what);
+        Ok(())
     }
 
-    fn size(&mut self) -> u32 {
+    fn size(&self) -> u32 {
         self.cells.len() as u32
     }
 
-    fn state(&mut self, n: u32) -> Result<State, StoreFault> {
-        let cells = mem::replace(&mut self.cells, &mut []);
-        let r = readings::state(cells, n);
-        self.cells = cells;
-        r
+    fn state(&self, n: u32) -> Result<State, StoreFault> {
+        checks::range(self, n)?;
+        Ok(cell_at(self.cells, n).state())
     }
 
-    fn read(&mut self, n: u32) -> Result<Record, StoreFault> {
-        let cells = mem::replace(&mut self.cells, &mut []);
-        let r = readings::read(cells, n);
-        self.cells = cells;
-        r
+    fn read(&self, n: u32) -> Result<Record, StoreFault> {
+        checks::busy(self, n)?;
+        cell_at(self.cells, n)
+            .record()
+            .ok_or(StoreFault::WrongState(n))
     }
 
-    fn first(&mut self) -> Option<u32> {
-        let cells = mem::replace(&mut self.cells, &mut []);
-        let r = readings::first(cells);
-        self.cells = cells;
-        r
+    fn first(&self) -> Option<u32> {
+        number_at(self.cells, 0)
     }
 
-    fn last(&mut self) -> Option<u32> {
-        let cells = mem::replace(&mut self.cells, &mut []);
-        let r = readings::last(cells);
-        self.cells = cells;
-        r
+    fn last(&self) -> Option<u32> {
+        number_before(self.cells, count_placed(self.cells))
     }
 
-    fn next(&mut self, n: u32) -> Result<Option<u32>, StoreFault> {
-        let cells = mem::replace(&mut self.cells, &mut []);
-        let r = readings::next(cells, n);
-        self.cells = cells;
-        r
+    fn next(&self, n: u32) -> Result<Option<u32>, StoreFault> {
+        checks::placed(self, n)?;
+        Ok(number_at(self.cells, place_of(self.cells, n) + 1))
     }
 
-    fn previous(&mut self, n: u32) -> Result<Option<u32>, StoreFault> {
-        let cells = mem::replace(&mut self.cells, &mut []);
-        let r = readings::previous(cells, n);
-        self.cells = cells;
-        r
+    fn previous(&self, n: u32) -> Result<Option<u32>, StoreFault> {
+        checks::placed(self, n)?;
+        Ok(number_before(self.cells, place_of(self.cells, n)))
     }
 
-    fn count_uses(&mut self, n: u32) -> Result<u32, StoreFault> {
-        let cells = mem::replace(&mut self.cells, &mut []);
-        let r = readings::count_uses(cells, n);
-        self.cells = cells;
-        r
+    fn count_uses(&self, n: u32) -> Result<u32, StoreFault> {
+        checks::busy(self, n)?;
+        Ok(count_all(self.cells, n))
     }
 
-    fn next_use(
-        &mut self,
-        n: u32,
-        after: Option<(u32, u8)>,
-    ) -> Result<Option<(u32, u8)>, StoreFault> {
-        let cells = mem::replace(&mut self.cells, &mut []);
-        let r = readings::next_use(cells, n, after);
-        self.cells = cells;
-        r
+    fn next_use(&self, n: u32, after: Option<(u32, u8)>) -> Result<Option<(u32, u8)>, StoreFault> {
+        checks::busy(self, n)?;
+        Ok(least_use(self.cells, n, after))
     }
+
+    ghost proper = { λ s. proper_flat s.cells.now s.few s.filled s.tied };
 }

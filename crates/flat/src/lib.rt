@@ -3,10 +3,6 @@
 
 pub mod cells;
 mod commands;
-mod faults;
 pub mod flat;
-mod lookup;
 mod places;
-mod ranks;
-mod readings;
 mod uses;

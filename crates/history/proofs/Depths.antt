@@ -1,13 +1,12 @@
 -- No list of calls opens more than 8 saves at once in a session.
-use Rattle.std.proofs.Common.{◌≡◌, ℕ, zero, suc, ◌+◌, ◌<◌, ◌≤◌, Bool, true, false, cond, ltb, List, [], ◌∷◌, map, length, take, Some, None, Ok, Err, Option, sym, refl, ap, ◌∙◌, subst, ⊎_elim, arith, ltb-true}
+use Rattle.std.proofs.Common.{◌≡◌, ℕ, zero, suc, ◌<◌, ◌≤◌, Bool, List, [], ◌∷◌, map, length, take, Some, None, Option, sym, refl, ap, ◌∙◌, subst, ⊎_elim, arith}
 use Rattle.std.proofs.lemmas.List.{take-take, take-map}
+use Rattle.std.proofs.lemmas.Bool.Decides.{nat_tests}
 use Rattle.program.specs.Programs.{Program}
 use Rattle.session.specs.declared.call.Call.{Call}
-use Rattle.session.specs.declared.call.Reply.{Reply}
 use Rattle.session.specs.declared.fault.SessionFault.{SessionFault}
-use Rattle.session.specs.declared.fault.SessionFault.TheVariants.{TooDeep}
-use Rattle.session.specs.Copying.{Save, Copying, fresh, Step, to, open_step, close_fault, accepted, reverted, closed}
-use Rattle.session.specs.Calls.{Act, work, begin, end, accepting, reverting, Answer, act_of, answer_of, act_step, answers, final, work_step}
+use Rattle.session.specs.Copying.{Save, Copying, fresh, Step, open_step, close_fault, accepted, reverted, closed}
+use Rattle.session.specs.Calls.{Act, work, begin, end, accepting, reverting, Answer, act_of, act_step, answers, final, work_step}
 use Rattle.history.specs.Striking.{Entry, Bundles, bundles, strike, strike_all}
 use Rattle.history.specs.Piles.{bundles_after, Unanswered}
 use Rattle.history.proofs.Works.{Refusal, Success, steady}
@@ -28,16 +27,8 @@ reverted_shallow : (s : Copying) (vs : List Save) → Shallow s → length vs �
 reverted_shallow s [] h k = h
 reverted_shallow s (v ∷ vs) h k = omega arith
 
-either_shallow : (x : Bool) (t u : Step Answer) → (x ≡ true → Shallow t.after) → Shallow u.after → Shallow (cond x t u).after
-either_shallow true t u h k = h refl
-either_shallow false t u h k = k
-
 begin_shallow : (held : Bool) (s : Copying) → Shallow s → Shallow (open_step held s).after
-begin_shallow held s h =
-    let n = length s.saves in
-    either_shallow (ltb n 8)
-    (to (record { program = s.program; saves = record { program = s.program; left = s.left; held = held } ∷ s.saves; left = s.left }) (Ok (n + 1)))
-    (to s (Err (TooDeep n))) (λ e. omega (arith, ltb-true)) h
+begin_shallow held s h = grind (arith, nat_tests)
 
 step_shallow : (a : Act) (s : Copying) → s.left ≤ 512 → Shallow s → Shallow (act_step a s).after
 step_shallow (work w) s l h =
@@ -77,12 +68,12 @@ module _ (p : Program) where
 
 -- more than 8 bundles above the lowest are no session's
 pub unanswered :
-    (n : ℕ) (calls : List Call) (replies : List Reply) → n ≤ length calls → 8 < length (bundles_after n calls replies).below
-    → Unanswered (map act_of calls) (map answer_of (take (length calls) replies))
+    (n : ℕ) (calls : List Call) (replies : List Answer) → n ≤ length calls → 8 < length (bundles_after n calls replies).below
+    → Unanswered (map act_of calls) (take (length calls) replies)
 unanswered n calls replies h d p e =
     let acts = map act_of (take n calls) in
-    let same : map answer_of (take n replies) ≡ answers acts (fresh p)
-    = ap (map answer_of) (sym (take-take n (length calls) replies h)) ∙ sym (take-map answer_of n (take (length calls) replies)) ∙ ap (take n) e
+    let same : take n replies ≡ answers acts (fresh p)
+    = sym (take-take n (length calls) replies h) ∙ ap (take n) e
     ∙ answers_take n (map act_of calls) (fresh p) ∙ ap (λ l. answers l (fresh p)) (take-map act_of n calls) in
     let k = ap (λ l. length (strike_all (bundles [] []) acts l).below) same in
     omega (arith, k, few_bundles p acts)

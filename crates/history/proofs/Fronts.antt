@@ -1,12 +1,11 @@
 -- The pile after the first calls of a list.
 use Rattle.std.proofs.Common.{◌≡◌, ℕ, ◌+◌, ◌<◌, ◌≤◌, List, [], ◌∷◌, ◌++◌, map, length, get_or, take, drop, Ok, Err, sym, refl, ap, ◌∙◌, subst, arith}
-use Rattle.std.proofs.lemmas.List.{length-append, length-map, length-take-le, take_all, map_push, take_more}
+use Rattle.std.proofs.lemmas.List.{length-append, length-map, length-take-le, map_push, take_more}
 use Rattle.session.specs.declared.call.Call.{Call}
-use Rattle.session.specs.declared.call.Reply.{Reply}
-use Rattle.session.specs.Calls.{Act, work, begin, end, Ending, accepting, reverting, Answer, act_of, answer_of}
+use Rattle.session.specs.Calls.{Act, work, begin, end, Ending, accepting, reverting, Answer, act_of}
 use Rattle.history.specs.declared.survivors.Pile.{Pile}
 use Rattle.history.specs.declared.survivors.HistoryFault.{HistoryFault}
-use Rattle.history.specs.Striking.{Entry, entry, Bundles, bundles, fold_down, strike, strike_all, joined, history, acts_of}
+use Rattle.history.specs.Striking.{Entry, entry, Bundles, bundles, fold_down, strike, strike_all, joined}
 use Rattle.history.specs.Piles.{Piled, Followed, Survived, bundles_after}
 use Rattle.history.proofs.Piles.{joined_append}
 use Rattle.history.proofs.Depths.{unanswered}
@@ -38,7 +37,7 @@ size_strike b (work w) (Err f) = omega arith
 size_strike b (begin held) (Err f) = omega arith
 size_strike b (end e held d) (Err f) = omega arith
 
-module _ (calls : List Call) (replies : List Reply) (before : List Call) where
+module _ (calls : List Call) (replies : List Answer) (before : List Call) where
   -- the pile holds the bundles after the first i calls
   pub record Sofar (i : ℕ) (later : List Call) (p : Pile) : Type 0 where
     pub piled : Piled later p (bundles_after i calls replies)
@@ -47,23 +46,22 @@ module _ (calls : List Call) (replies : List Reply) (before : List Call) where
     pub behind : drop (length calls) later ≡ drop (length calls) before
 
   pub after_more :
-      (i : ℕ) (call : Call) (reply : Reply) → i < length calls → i < length replies → call ≡ get_or calls i call → reply ≡ get_or replies i reply
-      → bundles_after (i + 1) calls replies ≡ strike (bundles_after i calls replies) (act_of call) (answer_of reply)
+      (i : ℕ) (call : Call) (reply : Answer) → i < length calls → i < length replies → call ≡ get_or calls i call → reply ≡ get_or replies i reply
+      → bundles_after (i + 1) calls replies ≡ strike (bundles_after i calls replies) (act_of call) reply
   after_more i call reply h k is was =
       let xs = map act_of (take i calls) in
-      let rs = map answer_of (take i replies) in
+      let rs = take i replies in
       let one : map act_of (take (i + 1) calls) ≡ xs ++ (act_of call ∷ [])
       = ap (map act_of) (take_more calls i call h ∙ ap (λ x. take i calls ++ (x ∷ [])) (sym is)) ∙ map_push act_of (take i calls) call in
-      let two : map answer_of (take (i + 1) replies) ≡ rs ++ (answer_of reply ∷ [])
-      = ap (map answer_of) (take_more replies i reply k ∙ ap (λ x. take i replies ++ (x ∷ [])) (sym was)) ∙ map_push answer_of (take i replies) reply in
+      let two : take (i + 1) replies ≡ rs ++ (reply ∷ []) = take_more replies i reply k ∙ ap (λ x. rs ++ (x ∷ [])) (sym was) in
       let even : length xs ≡ length rs
-      = length-map (take i calls) act_of ∙ length-take-le i calls (omega arith) ∙ sym (length-map (take i replies) answer_of ∙ length-take-le i replies (omega arith)) in
-      ap (λ l. strike_all (bundles [] []) l (map answer_of (take (i + 1) replies))) one
+      = length-map (take i calls) act_of ∙ length-take-le i calls (omega arith) ∙ sym (length-take-le i replies (omega arith)) in
+      ap (λ l. strike_all (bundles [] []) l (take (i + 1) replies)) one
       ∙ ap (strike_all (bundles [] []) (xs ++ (act_of call ∷ []))) two
-      ∙ strike_all_more xs rs (act_of call) (answer_of reply) (bundles [] []) even
+      ∙ strike_all_more xs rs (act_of call) reply (bundles [] []) even
 
   pub sofar_more :
-      (i : ℕ) (call : Call) (reply : Reply) (a b : List Call) (p q : Pile) → i < length calls → i < length replies → call ≡ get_or calls i call → reply ≡ get_or replies i reply
+      (i : ℕ) (call : Call) (reply : Answer) (a b : List Call) (p q : Pile) → i < length calls → i < length replies → call ≡ get_or calls i call → reply ≡ get_or replies i reply
       → Sofar i a p → Followed call reply a b p q (Ok tt) → Sofar (i + 1) b q
   sofar_more i call reply a b p q h k is was s f =
       let old = bundles_after i calls replies in
@@ -71,19 +69,13 @@ module _ (calls : List Call) (replies : List Reply) (before : List Call) where
       let new : Piled b q (bundles_after (i + 1) calls replies) = subst (Piled b q) (sym e) (f.2 old s.piled) in
       record {
         piled = new;
-        few = omega (arith, new.long, ap size e, size_strike old (act_of call) (answer_of reply), s.piled.long, s.few);
+        few = omega (arith, new.long, ap size e, size_strike old (act_of call) reply, s.piled.long, s.few);
         shallow = f.0;
         behind = f.1 (length calls) (omega (arith, s.few)) ∙ s.behind;
       }
 
-  pub survived : (later : List Call) (p : Pile) → Sofar (length calls) later p → Survived calls replies before later (Ok p.len)
-  survived later p s =
-      let all : take (length calls) calls ≡ calls = take_all (length calls) calls (omega arith) in
-      let e = ap (λ (l : List Call). history (map act_of l) (map answer_of (take (length calls) replies))) all in
-      (s.piled.lies ∙ ap acts_of e, s.piled.long ∙ ap length e, s.behind)
-
   pub too_deep :
-      (i : ℕ) (call : Call) (reply : Reply) (a b : List Call) (p q : Pile) (f : HistoryFault) → i < length calls → i < length replies → call ≡ get_or calls i call → reply ≡ get_or replies i reply
+      (i : ℕ) (call : Call) (reply : Answer) (a b : List Call) (p q : Pile) (f : HistoryFault) → i < length calls → i < length replies → call ≡ get_or calls i call → reply ≡ get_or replies i reply
       → Sofar i a p → Followed call reply a b p q (Err f) → Survived calls replies before b (Err f)
   too_deep i call reply a b p q f h k is was s d =
       let e = after_more i call reply h k is was in

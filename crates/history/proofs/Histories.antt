@@ -2,7 +2,7 @@
 use Rattle.std.proofs.Common.{◌≡◌, ℕ, ◌+◌, ◌≤◌, Bool, true, false, cond, eqb, ltb, List, [], ◌∷◌, ◌++◌, length, Some, None, Ok, Err, sym, refl, ap, ◌∙◌, subst, ⊎_elim, arith}
 use Rattle.program.specs.Programs.{Program}
 use Rattle.session.specs.declared.fault.SessionFault.TheVariants.{TooDeep, NotNewest, WrongKind}
-use Rattle.session.specs.Copying.{Save, Copying, fresh, Step, to, open_step, same, close_fault, left_after, accepted, reverted, closed}
+use Rattle.session.specs.Copying.{Save, Copying, fresh, Step, to, open_step, same, close_fault, left_after, accepted, reverted, closed, answering}
 use Rattle.session.specs.Calls.{Work, accepting, reverting, Act, work, begin, end, Answer, zeroed, work_step, act_step, answers, final}
 use Rattle.history.specs.Striking.{Entry, entry, Bundles, bundles, strike, strike_all, joined, history, acts_of, answers_of}
 use Rattle.history.specs.Law.{Accepted, AllAccepted, Repeats}
@@ -61,32 +61,29 @@ module _ (p₀ : Program) where
   whole t (b ∷ bs) p (v ∷ vs) r = append p₀ v.program p (joined b bs) t (whole b bs v.program vs r.2) r.0
 
   -- a close that is refused leaves all as it was
-  unclosed : (b : Bundles) (s u : Copying) (a : Act) (f : Rattle.session.specs.declared.fault.SessionFault.SessionFault) → Good b s → Kept b a (to (closed (Some f) s u).after (zeroed (closed (Some f) s u).answer))
-  unclosed b s u a f g = g
+  closed_keeps :
+      (b : Bundles) (s u : Copying) (a : Act) (d : ℕ) (x y : Bool) → Good b s → Kept b a (to u (Ok 0))
+      → Kept b a (answering zeroed (closed (cond x (cond y None (Some (WrongKind d))) (Some (NotNewest d))) s) u)
+  closed_keeps b s u a d true true g k = k
+  closed_keeps b s u a d true false g k = g
+  closed_keeps b s u a d false y g k = g
 
   accept_keeps :
       (s : Copying) (t : List Entry) (bs : List (List Entry)) (vs : List Save) (held : Bool) (d : ℕ) → Good (bundles t bs) s → Holds t bs s.program vs
-      → Kept (bundles t bs) (end accepting held d) (to (closed (close_fault vs d held) s (accepted s vs)).after (zeroed (closed (close_fault vs d held) s (accepted s vs)).answer))
+      → Kept (bundles t bs) (end accepting held d) (answering zeroed (closed (close_fault vs d held) s) (accepted s vs))
   accept_keeps s t bs [] held d g h = g
   accept_keeps s t [] (v ∷ vs) held d g h = absurd h
-  accept_keeps s t (b ∷ bs) (v ∷ vs) held d g h = by_tests (eqb d (length (v ∷ vs))) (same v.held held)
-    where
-      by_tests : (x y : Bool) → Kept (bundles t (b ∷ bs)) (end accepting held d) (to (closed (cond x (cond y None (Some (WrongKind d))) (Some (NotNewest d))) s (accepted s (v ∷ vs))).after (zeroed (closed (cond x (cond y None (Some (WrongKind d))) (Some (NotNewest d))) s (accepted s (v ∷ vs))).answer))
-      by_tests true true = (few_after vs s.left g.0, extend b t bs v.program s.program vs h.2 h.0)
-      by_tests true false = g
-      by_tests false y = g
+  accept_keeps s t (b ∷ bs) (v ∷ vs) held d g h =
+      closed_keeps (bundles t (b ∷ bs)) s (accepted s (v ∷ vs)) (end accepting held d) d (eqb d (length (v ∷ vs))) (same v.held held) g
+      (few_after vs s.left g.0, extend b t bs v.program s.program vs h.2 h.0)
 
   revert_keeps :
       (s : Copying) (t : List Entry) (bs : List (List Entry)) (vs : List Save) (held : Bool) (d : ℕ) → Good (bundles t bs) s → Holds t bs s.program vs
-      → Kept (bundles t bs) (end reverting held d) (to (closed (close_fault vs d held) s (reverted s vs)).after (zeroed (closed (close_fault vs d held) s (reverted s vs)).answer))
+      → Kept (bundles t bs) (end reverting held d) (answering zeroed (closed (close_fault vs d held) s) (reverted s vs))
   revert_keeps s t bs [] held d g h = g
   revert_keeps s t [] (v ∷ vs) held d g h = absurd h
-  revert_keeps s t (b ∷ bs) (v ∷ vs) held d g h = by_tests (eqb d (length (v ∷ vs))) (same v.held held)
-    where
-      by_tests : (x y : Bool) → Kept (bundles t (b ∷ bs)) (end reverting held d) (to (closed (cond x (cond y None (Some (WrongKind d))) (Some (NotNewest d))) s (reverted s (v ∷ vs))).after (zeroed (closed (cond x (cond y None (Some (WrongKind d))) (Some (NotNewest d))) s (reverted s (v ∷ vs))).answer))
-      by_tests true true = (h.1, h.2)
-      by_tests true false = g
-      by_tests false y = g
+  revert_keeps s t (b ∷ bs) (v ∷ vs) held d g h =
+      closed_keeps (bundles t (b ∷ bs)) s (reverted s (v ∷ vs)) (end reverting held d) d (eqb d (length (v ∷ vs))) (same v.held held) g (h.1, h.2)
 
   begin_keeps : (b : Bundles) (s : Copying) (held : Bool) → Good b s → Kept b (begin held) (open_step held s)
   begin_keeps b s held g = by_test (ltb (length s.saves) 8)

@@ -3,10 +3,9 @@ use Rattle.std.proofs.Common.{◌≡◌, ℕ, ◌+◌, ◌<◌, List, [], ◌∷
 use Rattle.std.proofs.lemmas.List.{take_more, take_more_set, drop-drop, drop-set-lt, map-append}
 use Rattle.program.specs.Programs.{Program}
 use Rattle.session.specs.declared.call.Call.{Call}
-use Rattle.session.specs.declared.call.Reply.{Reply}
 use Rattle.session.specs.declared.session.Session.{Session}
 use Rattle.session.specs.Copying.{Copying}
-use Rattle.session.specs.Calls.{Act, act_of, answer_of, act_step, answers, final}
+use Rattle.session.specs.Calls.{Act, Answer, act_of, act_step, answers, final}
 use Rattle.session.specs.Meaning.{meaning, Called}
 use Rattle.history.specs.Entering.{Made}
 
@@ -19,24 +18,21 @@ final_more [] a s = refl
 final_more (x ∷ xs) a s = final_more xs a (act_step x s).after
 
 module _ {S M : Type 0} (program : S → Program) (calls : List Call) where
-  pub made_none : (a : Session S M) (rs : List Reply) → Made program 0 calls a a rs rs
-  made_none a rs = record { answered = refl; led = refl; behind = refl }
-
   pub made_more :
-      (i : ℕ) (a b c : Session S M) (before rs : List Reply) (call : Call) (r : Reply) → i < length calls → i < length rs → call ≡ get_or calls i call
-      → Made program i calls a b before rs → Called program (act_step (act_of call)) b c (answer_of r) → Made program (i + 1) calls a c before (set rs i r)
+      (i : ℕ) (a b c : Session S M) (before rs : List Answer) (call : Call) (r : Answer) → i < length calls → i < length rs → call ≡ get_or calls i call
+      → Made program i calls a b before rs → Called program (act_step (act_of call)) b c r → Made program (i + 1) calls a c before (set rs i r)
   made_more i a b c before rs call r h k is m e =
       let s = meaning program a in
       let xs = map act_of (take i calls) in
       let front : map act_of (take (i + 1) calls) ≡ xs ++ (act_of call ∷ [])
       = ap (map act_of) (take_more calls i call h ∙ ap (λ x. take i calls ++ (x ∷ [])) (sym is)) ∙ map-append act_of (take i calls) (call ∷ []) in
-      let here : answer_of r ≡ (act_step (act_of call) (final xs s)).answer = e.answer ∙ ap (λ x. (act_step (act_of call) x).answer) m.led in
+      let here : r ≡ (act_step (act_of call) (final xs s)).answer = e.answer ∙ ap (λ x. (act_step (act_of call) x).answer) m.led in
       let one : drop (i + 1) rs ≡ drop (i + 1) before
       = sym (drop-drop 1 i rs) ∙ ap (drop 1) m.behind ∙ drop-drop 1 i before in
       record {
         answered =
-            ap (map answer_of) (take_more_set rs i r k) ∙ map-append answer_of (take i rs) (r ∷ [])
-            ∙ ap (λ l. l ++ (answer_of r ∷ [])) m.answered ∙ ap (λ x. answers xs s ++ (x ∷ [])) here ∙ sym (answers_more xs (act_of call) s)
+            take_more_set rs i r k
+            ∙ ap (λ l. l ++ (r ∷ [])) m.answered ∙ ap (λ x. answers xs s ++ (x ∷ [])) here ∙ sym (answers_more xs (act_of call) s)
             ∙ ap (λ l. answers l s) (sym front);
         led = e.after ∙ ap (λ x. (act_step (act_of call) x).after) m.led ∙ sym (final_more xs (act_of call) s) ∙ ap (λ l. final l s) (sym front);
         behind = drop-set-lt (i + 1) rs i r (omega arith) ∙ one;

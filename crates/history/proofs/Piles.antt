@@ -1,11 +1,9 @@
 -- A pile follows the bundles, call by call.
 use Rattle.std.proofs.Common.{◌≡◌, ℕ, suc, ◌+◌, ◌-◌, ◌<◌, ◌≤◌, List, [], ◌∷◌, ◌++◌, map, length, get_or, take, set, Ok, sym, refl, ap, ◌∙◌, subst, arith}
-use Rattle.std.proofs.lemmas.List.{append_assoc, append-nil, length-append, take_more, take_more_set, take-take, take_at, take-map, map-append, same_from_push}
+use Rattle.std.proofs.lemmas.List.{append_assoc, length-append, take_more, take_more_set, take-take, take_at, take-map, map-append, same_from_push}
 use Rattle.session.specs.declared.call.Call.{Call}
-use Rattle.session.specs.declared.call.Reply.{Reply}
-use Rattle.session.specs.declared.call.Reply.TheVariants.{Accepted}
-use Rattle.session.specs.Calls.{Act, work, begin, end, accepting, reverting, act_of, answer_of}
-use Rattle.history.specs.declared.survivors.Kind.TheVariants.{Work, Begin, Accept, Revert}
+use Rattle.session.specs.Calls.{Act, work, begin, end, accepting, reverting, Answer, act_of}
+use Rattle.history.specs.declared.survivors.Kind.TheVariants.{Work, Accept, Revert}
 use Rattle.history.specs.declared.survivors.Pile.{Pile}
 use Rattle.history.specs.Striking.{Entry, entry, Bundles, bundles, fold_down, strike, joined, acts_of}
 use Rattle.history.specs.Piles.{kind_of, starts_of, Piled}
@@ -31,12 +29,6 @@ struck_work (work w) x b e = refl
 struck_work (begin held) x b e = cc
 struck_work (end accepting held d) x b e = cc
 struck_work (end reverting held d) x b e = cc
-
-struck_begin : (a : Act) (x : ℕ) (b : Bundles) → Begin ≡ kind_of a → strike b a (Ok x) ≡ bundles [] (b.top ∷ b.below)
-struck_begin (work w) x b e = cc
-struck_begin (begin held) x b e = refl
-struck_begin (end accepting held d) x b e = cc
-struck_begin (end reverting held d) x b e = cc
 
 struck_accept : (a : Act) (x : ℕ) (b : Bundles) → Accept ≡ kind_of a → strike b a (Ok x) ≡ fold_down accepting b.top b.below
 struck_accept (work w) x b e = cc
@@ -93,15 +85,15 @@ module _ (kept : List Call) (starts : List ℕ) (depth n : ℕ) where
       }
 
 -- the pile of a list of calls, and an accepted call
-module _ (kept : List Call) (starts : List ℕ) (depth n : ℕ) (call : Call) (reply : Reply) (x : ℕ) (b : Bundles) (is : reply ≡ Accepted x) where
+module _ (kept : List Call) (starts : List ℕ) (depth n : ℕ) (call : Call) (reply : Answer) (x : ℕ) (b : Bundles) (is : reply ≡ Ok x) where
   abbrev here : Type 0
   here = Piled kept (pile starts depth n) b
 
   -- what the pile is to hold, from what the accepted call does
-  by_kind : (later : List Call) (q : Pile) (c : Bundles) → strike b (act_of call) (Ok x) ≡ c → Piled later q c → Piled later q (strike b (act_of call) (answer_of reply))
-  by_kind later q c e p = subst (Piled later q) (sym (ap (λ r. strike b (act_of call) (answer_of r)) is ∙ e)) p
+  by_kind : (later : List Call) (q : Pile) (c : Bundles) → strike b (act_of call) (Ok x) ≡ c → Piled later q c → Piled later q (strike b (act_of call) reply)
+  by_kind later q c e p = subst (Piled later q) (sym (ap (strike b (act_of call)) is ∙ e)) p
 
-  pub piled_work : Work ≡ kind_of (act_of call) → n < length kept → here → Piled (set kept n call) (pile starts depth (n + 1)) (strike b (act_of call) (answer_of reply))
+  pub piled_work : Work ≡ kind_of (act_of call) → n < length kept → here → Piled (set kept n call) (pile starts depth (n + 1)) (strike b (act_of call) reply)
   piled_work k h p =
       let one = entry (act_of call) (Ok x) ∷ [] in
       let old = joined b.top b.below in
@@ -116,25 +108,14 @@ module _ (kept : List Call) (starts : List ℕ) (depth n : ℕ) (call : Call) (r
         deep = p.deep;
       })
 
-  pub piled_begin : Begin ≡ kind_of (act_of call) → depth < length starts → here → Piled kept (pile (set starts depth n) (depth + 1) n) (strike b (act_of call) (answer_of reply))
-  piled_begin k h p =
-      let none = append-nil (joined b.top b.below) in
-      by_kind kept (pile (set starts depth n) (depth + 1) n) (bundles [] (b.top ∷ b.below)) (struck_begin (act_of call) x b k)
-      (record {
-        lies = p.lies ∙ ap acts_of (sym none);
-        long = p.long ∙ ap length (sym none);
-        begins = take_more_set starts depth n h ∙ ap (λ l. l ++ (n ∷ [])) p.begins ∙ ap (λ m. starts_of b.below ++ (m ∷ [])) p.long;
-        deep = omega (arith, p.deep);
-      })
-
-  pub piled_accept : Accept ≡ kind_of (act_of call) → 0 < depth → depth ≤ length starts → here → Piled kept (pile starts (depth - 1) n) (strike b (act_of call) (answer_of reply))
+  pub piled_accept : Accept ≡ kind_of (act_of call) → 0 < depth → depth ≤ length starts → here → Piled kept (pile starts (depth - 1) n) (strike b (act_of call) reply)
   piled_accept k z h p =
       by_kind kept (pile starts (depth - 1) n) (fold_down accepting b.top b.below) (struck_accept (act_of call) x b k)
       (folded_accept kept starts depth n b.top b.below z h p)
 
   pub piled_revert :
       Revert ≡ kind_of (act_of call) → 0 < depth → depth ≤ length starts → here
-      → Piled kept (pile starts (depth - 1) (get_or starts (depth - 1) 0)) (strike b (act_of call) (answer_of reply))
+      → Piled kept (pile starts (depth - 1) (get_or starts (depth - 1) 0)) (strike b (act_of call) reply)
   piled_revert k z h p =
       by_kind kept (pile starts (depth - 1) (get_or starts (depth - 1) 0)) (fold_down reverting b.top b.below) (struck_revert (act_of call) x b k)
       (folded_revert kept starts depth n b.top b.below z h p)

@@ -6,7 +6,7 @@ use Rattle.program.specs.Readings.{answered}
 use Rattle.program.specs.Proper.{Proper}
 use Rattle.program.proofs.Uses.{uses_law}
 use Rattle.program.proofs.Accepting.{busy_accepted}
-use Rattle.edits.proofs.Positions.{operand_at}
+use Rattle.program.proofs.Positions.{operand_at}
 use Rattle.history.specs.Law.{ReadOut, UseList, UsesRead}
 
 module _ (p : Program) (v : ℕ) (b : Busy p v) where

@@ -8,10 +8,12 @@ use Rattle.session.specs.Copying.{fresh}
 use Rattle.session.specs.Calls.{Act, Answer, answers, final}
 use Rattle.history.specs.Striking.{history, acts_of, answers_of}
 
+-- the call was accepted
 abbrev pub Accepted : Answer → Type 0
 Accepted (Ok x) = Unit {0}
 Accepted (Err f) = ⊥
 
+-- each of the calls was accepted
 abbrev pub AllAccepted : List Answer → Type 0
 AllAccepted [] = Unit {0}
 AllAccepted (r ∷ rs) = Accepted r × AllAccepted rs

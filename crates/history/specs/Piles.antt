@@ -2,9 +2,8 @@
 use Rattle.std.specs.Prelude.{◌≡◌, ℕ, ◌<◌, ◌≤◌, ◌⊎◌, List, [], ◌∷◌, ◌++◌, map, length, take, drop, Ok, Err, Result, ◌≢◌}
 use Rattle.program.specs.Programs.{Program}
 use Rattle.session.specs.declared.call.Call.{Call}
-use Rattle.session.specs.declared.call.Reply.{Reply}
 use Rattle.session.specs.Copying.{fresh}
-use Rattle.session.specs.Calls.{Act, work, begin, end, accepting, reverting, Answer, act_of, answer_of, answers}
+use Rattle.session.specs.Calls.{Act, work, begin, end, accepting, reverting, Answer, act_of, answers}
 use Rattle.history.specs.declared.survivors.Kind.{Kind}
 use Rattle.history.specs.declared.survivors.Kind.TheVariants.{Work, Begin, Accept, Revert}
 use Rattle.history.specs.declared.survivors.Pile.{Pile}
@@ -12,6 +11,7 @@ use Rattle.history.specs.declared.survivors.HistoryFault.{HistoryFault}
 use Rattle.history.specs.declared.survivors.HistoryFault.TheVariants.{Short, TooDeep}
 use Rattle.history.specs.Striking.{Entry, Bundles, bundles, strike, strike_all, joined, history, acts_of}
 
+-- what a call does to the bundles, if it is accepted
 abbrev pub kind_of : Act → Kind
 kind_of (work w) = Work
 kind_of (begin held) = Begin
@@ -31,17 +31,17 @@ pub record Piled (kept : List Call) (pile : Pile) (b : Bundles) : Type 0 where
   pub deep : pile.depth ≡ length b.below
 
 -- whatever the pile p held, q holds with the call struck in, and no call past the end of p was written; or there would be more than 8 starts, and nothing was done
-abbrev pub Followed : Call → Reply → List Call → List Call → Pile → Pile → Result (Unit {0}) HistoryFault → Type 0
+abbrev pub Followed : Call → Answer → List Call → List Call → Pile → Pile → Result (Unit {0}) HistoryFault → Type 0
 Followed call reply before later p q (Ok u) =
     (q.depth ≤ 8)
     × ((n : ℕ) → p.len < n → drop n later ≡ drop n before)
-    × ((b : Bundles) → Piled before p b → Piled later q (strike b (act_of call) (answer_of reply)))
+    × ((b : Bundles) → Piled before p b → Piled later q (strike b (act_of call) reply))
 Followed call reply before later p q (Err f) =
-    (f ≡ TooDeep) × (later ≡ before) × ((b : Bundles) → Piled before p b → 8 < length (strike b (act_of call) (answer_of reply)).below)
+    (f ≡ TooDeep) × (later ≡ before) × ((b : Bundles) → Piled before p b → 8 < length (strike b (act_of call) reply).below)
 
 -- the bundles after the first n calls
-abbrev pub bundles_after : ℕ → List Call → List Reply → Bundles
-bundles_after n calls replies = strike_all (bundles [] []) (map act_of (take n calls)) (map answer_of (take n replies))
+abbrev pub bundles_after : ℕ → List Call → List Answer → Bundles
+bundles_after n calls replies = strike_all (bundles [] []) (map act_of (take n calls)) (take n replies)
 
 -- no new session gives these answers to the calls
 abbrev pub Unanswered : List Act → List Answer → Type 0
@@ -49,13 +49,13 @@ Unanswered acts rs = (p : Program) → rs ≢ answers acts (fresh p)
 
 -- The surviving history stands at the front, n calls of it, and the memory past the number of calls is as it was; or the memory
 -- or the replies were too few, and nothing was done; or after some of the calls more than 8 saves are open, as in no session.
-abbrev pub Survived : List Call → List Reply → List Call → List Call → Result ℕ HistoryFault → Type 0
+abbrev pub Survived : List Call → List Answer → List Call → List Call → Result ℕ HistoryFault → Type 0
 Survived calls replies before later (Ok n) =
-    (map act_of (take n later) ≡ acts_of (history (map act_of calls) (map answer_of (take (length calls) replies))))
-    × (n ≡ length (history (map act_of calls) (map answer_of (take (length calls) replies))))
+    (map act_of (take n later) ≡ acts_of (history (map act_of calls) (take (length calls) replies)))
+    × (n ≡ length (history (map act_of calls) (take (length calls) replies)))
     × (drop (length calls) later ≡ drop (length calls) before)
 Survived calls replies before later (Err Short) = ((length replies < length calls) ⊎ (length before < length calls)) × (later ≡ before)
 Survived calls replies before later (Err TooDeep) =
     ((n : ℕ) × (n ≤ length calls) × (8 < length (bundles_after n calls replies).below))
-    × Unanswered (map act_of calls) (map answer_of (take (length calls) replies))
+    × Unanswered (map act_of calls) (take (length calls) replies)
     × (drop (length calls) later ≡ drop (length calls) before)

@@ -8,6 +8,7 @@ pub record Entry : Type 0 where
   pub act : Act
   pub answer : Answer
 
+-- a call with its answer, as an entry
 abbrev pub entry : Act → Answer → Entry
 entry a r = record { act = a; answer = r }
 
@@ -16,6 +17,7 @@ pub record Bundles : Type 0 where
   pub top : List Entry
   pub below : List (List Entry)
 
+-- the pile with a top bundle over others
 abbrev pub bundles : List Entry → List (List Entry) → Bundles
 bundles t bs = record { top = t; below = bs }
 
@@ -36,6 +38,7 @@ abbrev pub strike : Bundles → Act → Answer → Bundles
 strike b a (Ok x) = struck b a (Ok x)
 strike b a (Err f) = b
 
+-- the calls taken in one after another, each with its answer
 abbrev pub strike_all : Bundles → List Act → List Answer → Bundles
 strike_all b [] rs = b
 strike_all b (a ∷ more) [] = b
@@ -50,10 +53,12 @@ joined t (b ∷ bs) = joined b bs ++ t
 abbrev pub history : List Act → List Answer → List Entry
 history acts rs = joined (strike_all (bundles [] []) acts rs).top (strike_all (bundles [] []) acts rs).below
 
+-- the calls of the entries
 abbrev pub acts_of : List Entry → List Act
 acts_of [] = []
 acts_of (e ∷ h) = e.act ∷ acts_of h
 
+-- the answers of the entries
 abbrev pub answers_of : List Entry → List Answer
 answers_of [] = []
 answers_of (e ∷ h) = e.answer ∷ answers_of h

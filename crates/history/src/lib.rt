@@ -15,9 +15,8 @@ fn answer_all<S: Store, M>(session: &mut Session<S, M>, calls: &[Call], replies:
     requires { length calls.now ≤ length replies.old }
     ensures { Made S.program (length calls.now) calls.now session.old session.new replies.old replies.new }
 {
-    for i in 0..calls.len() {
-        let call = calls[i];
-        replies[i] = session.call(call);
+    for (i, call) in calls.iter().enumerate() {
+        replies[i] = session.call(*call);
     }
 }
 

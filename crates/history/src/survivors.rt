@@ -6,14 +6,14 @@ ghost use Rattle.history.specs.Piles.{kind_of, Followed, Survived};
 use session::call::{Call, Reply};
 
 // There are fewer replies, or there is less memory, than calls; or more than 8 saves are open at once, which no session admits.
-#[derive(Clone, Copy)]
+#[derive(Clone, Copy, PartialEq, Eq)]
 pub enum HistoryFault {
     Short,
     TooDeep,
 }
 
 // What an accepted call does to the pile.
-#[derive(Clone, Copy)]
+#[derive(Clone, Copy, PartialEq, Eq)]
 enum Kind {
     Work,
     Begin,
@@ -22,7 +22,8 @@ enum Kind {
 }
 
 // The bundles lie end to end in a list of calls, the lowest first: how many calls they have, and where each above the lowest begins.
-#[derive(Clone, Copy)]
+// A fixed array with its length: the device has no heap.
+#[derive(Clone, Copy, PartialEq, Eq)]
 struct Pile {
     starts: [usize; 8],
     depth: usize,
@@ -50,7 +51,7 @@ fn follow(pile: &mut Pile, kept: &mut [Call], call: Call, reply: Reply) -> Resul
     requires { (pile.old.depth ≤ 8) × (pile.old.len < length kept.old) }
     ensures { Followed call reply kept.old kept.new pile.old pile.new result }
 {
-    let Reply::Accepted(_) = reply else {
+    let Ok(_) = reply else {
         return Ok(());
     };
     match kind_of(call) {
@@ -97,8 +98,8 @@ pub fn survivors(
         depth: 0,
         len: 0,
     };
-    for i in 0..calls.len() {
-        follow(&mut pile, kept, calls[i], replies[i])?;
+    for (call, reply) in calls.iter().zip(replies) {
+        follow(&mut pile, kept, *call, *reply)?;
     }
     Ok(pile.len)
 }

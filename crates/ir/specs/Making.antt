@@ -5,12 +5,18 @@ use Rattle.ir.specs.declared.instruction.Record.{Record}
 use Rattle.ir.specs.declared.fault.Layer.{Layer}
 use Rattle.ir.specs.declared.fault.Report.{Report}
 use Rattle.ir.specs.declared.maker.RecordFault.{RecordFault}
+use Rattle.ir.specs.declared.maker.UnknownCode.{UnknownCode}
 use Rattle.ir.specs.declared.maker.RecordFault.TheVariants.{Malformed}
 use Rattle.ir.specs.Operations.{arity, limit, operation_of}
 
 -- every fault of a record has number 5 and layer R
 abbrev pub record_report : RecordFault → Report
 record_report (Malformed place) = record { number = 5; layer = Layer.Record; place = place }
+
+-- the result is the operation of the code; one that no operation has is handed back
+abbrev pub Decodes : ℕ → Result Op UnknownCode → Type 0
+Decodes code (Ok op) = operation_of code ≡ Some op
+Decodes code (Err e) = (operation_of code ≡ None) × (e.code ≡ code)
 
 -- an operand that is absent and not 0
 abbrev pub stray : Op → ℕ → ℕ → Bool

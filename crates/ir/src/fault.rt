@@ -2,8 +2,10 @@
 ghost use Rattle.std.specs.Prelude.{◌≡◌};
 ghost use Rattle.ir.specs.Reports.{letter_of_layer};
 
+use std::fmt;
+
 // Who refuses: the reader of a line, the maker of a record, the store, the keeper of saves, or a call that prices or runs the program.
-#[derive(Clone, Copy)]
+#[derive(Clone, Copy, PartialEq, Eq)]
 pub enum Layer {
     Line,
     Record,
@@ -25,12 +27,36 @@ impl Layer {
             Layer::Program => 'P',
         }
     }
+
+    // The report of a fault that this layer found.
+    pub fn report(self, number: u32, place: usize) -> Report
+        ensures { result ≡ record { number = number; layer = self; place = place } }
+    {
+        Report {
+            number,
+            layer: self,
+            place,
+        }
+    }
 }
 
 // A fault's number, who found it, and where.
-#[derive(Clone, Copy)]
+#[derive(Clone, Copy, PartialEq, Eq)]
 pub struct Report {
     pub number: u32,
     pub layer: Layer,
     pub place: usize,
+}
+
+// The three parts of a refusal, as programs print them.
+impl fmt::Display for Report {
+    fn fmt<W: fmt::Write>(&self, f: &mut fmt::Formatter<W>) -> fmt::Result {
+        write!(
+            f,
+            "fault {}, layer {}, place {}",
+            self.number,
+            self.layer.letter(),
+            self.place
+        )
+    }
 }

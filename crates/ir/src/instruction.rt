@@ -4,7 +4,7 @@ ghost use Rattle.ir.specs.Operations.{Shaped};
 use crate::operation::Op;
 
 // The literal lies in the operation's range, and an absent operand is 0: no record ever breaks this.
-#[derive(Clone, Copy)]
+#[derive(Clone, Copy, PartialEq, Eq)]
 pub struct Record {
     pub op: Op,
     pub literal: u32,

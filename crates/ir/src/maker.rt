@@ -1,57 +1,64 @@
 // Records made from five numbers.
 ghost use Rattle.std.specs.Prelude.{◌≡◌, nat_lt};
-ghost use Rattle.ir.specs.Operations.{arity, limit, operation_of, letter_of};
-ghost use Rattle.ir.specs.Instructions.{plain, constant_of};
-ghost use Rattle.ir.specs.Making.{Made, record_report};
+ghost use Rattle.ir.specs.Operations.{arity, limit, letter_of};
+ghost use Rattle.ir.specs.Instructions.{plain, constant_of, slots};
+ghost use Rattle.ir.specs.Making.{Decodes, Made, record_report};
 
 use crate::fault::{Layer, Report};
 use crate::instruction::Record;
 use crate::operation::Op;
+use std::fmt;
 
 // Why five numbers are no record.
-#[derive(Clone, Copy)]
+#[derive(Clone, Copy, PartialEq, Eq)]
 pub enum RecordFault {
     // the place: 0 for the code or the literal, else the position of the operand
     Malformed(u32),
 }
 
-impl RecordFault {
-    pub fn report(self) -> Report
-        ensures { result ≡ record_report self }
-    {
-        match self {
-            RecordFault::Malformed(place) => Report {
-                number: 5,
-                layer: Layer::Record,
-                place: place as usize,
-            },
+impl From<RecordFault> for Report {
+    ghost from_gives = { λ f r. r ≡ record_report f };
+
+    fn from(fault: RecordFault) -> Report {
+        match fault {
+            RecordFault::Malformed(place) => Layer::Record.report(5, place as usize),
+        }
+    }
+}
+
+// No operation has this code.
+#[derive(Clone, Copy, PartialEq, Eq)]
+pub struct UnknownCode {
+    pub code: u32,
+}
+
+// The operation of a code.
+impl TryFrom<u32> for Op {
+    type Error = UnknownCode;
+
+    ghost try_from_gives = { Decodes };
+
+    fn try_from(code: u32) -> Result<Op, UnknownCode> {
+        match code {
+            0 => Ok(Op::Constant),
+            1 => Ok(Op::Input),
+            2 => Ok(Op::Add),
+            3 => Ok(Op::Subtract),
+            4 => Ok(Op::Multiply),
+            5 => Ok(Op::And),
+            6 => Ok(Op::Or),
+            7 => Ok(Op::Xor),
+            8 => Ok(Op::Less),
+            9 => Ok(Op::Equal),
+            10 => Ok(Op::Pick),
+            11 => Ok(Op::Shift),
+            12 => Ok(Op::Out),
+            _ => Err(UnknownCode { code }),
         }
     }
 }
 
 impl Op {
-    // The operation of a code.
-    pub fn from_code(code: u32) -> Option<Op>
-        ensures { result ≡ operation_of code }
-    {
-        match code {
-            0 => Some(Op::Constant),
-            1 => Some(Op::Input),
-            2 => Some(Op::Add),
-            3 => Some(Op::Subtract),
-            4 => Some(Op::Multiply),
-            5 => Some(Op::And),
-            6 => Some(Op::Or),
-            7 => Some(Op::Xor),
-            8 => Some(Op::Less),
-            9 => Some(Op::Equal),
-            10 => Some(Op::Pick),
-            11 => Some(Op::Shift),
-            12 => Some(Op::Out),
-            _ => None,
-        }
-    }
-
     // The letter that stands for the operation in a line.
     pub fn letter(self) -> char
         ensures { result ≡ letter_of self }
@@ -103,7 +110,7 @@ impl Record {
     pub fn new(code: u32, literal: u32, a: u32, b: u32, c: u32) -> Result<Record, RecordFault>
         ensures { Made code literal a b c result }
     {
-        let Some(op) = Op::from_code(code) else {
+        let Ok(op) = Op::try_from(code) else {
             return Err(RecordFault::Malformed(0));
         };
         if !op.allows(literal) {
@@ -128,6 +135,18 @@ impl Record {
         })
     }
 
+    // The operand at each position that the operation has; behind the last there is none.
+    pub fn operands(self) -> [Option<u32>; 3]
+        ensures { result ≡ slots (plain self) }
+    {
+        let count = self.op.operands();
+        [
+            (0 < count).then_some(self.a),
+            (1 < count).then_some(self.b),
+            (2 < count).then_some(self.c),
+        ]
+    }
+
     // The constant of a word.
     pub fn constant(literal: u32) -> Record
         ensures { plain result ≡ constant_of literal }
@@ -139,5 +158,19 @@ impl Record {
             b: 0,
             c: 0,
         }
+    }
+}
+
+// The letter, the literal if the operation has one, and the operands, parted by blanks.
+impl fmt::Display for Record {
+    fn fmt<W: fmt::Write>(&self, f: &mut fmt::Formatter<W>) -> fmt::Result {
+        write!(f, "{}", self.op.letter())?;
+        if self.op.allows(1) {
+            write!(f, " {}", self.literal)?;
+        }
+        for x in self.operands().into_iter().flatten() {
+            write!(f, " {x}")?;
+        }
+        Ok(())
     }
 }

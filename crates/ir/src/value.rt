@@ -9,8 +9,7 @@ use crate::operation::Op;
 fn input_at(inputs: &[u32], channel: u32) -> u32
     ensures { result ≡ slice_index inputs.now channel }
 {
-    let at = channel as usize;
-    if at < inputs.len() { inputs[at] } else { 0 }
+    inputs.get(channel as usize).copied().unwrap_or(0)
 }
 
 impl Record {

@@ -22,15 +22,12 @@ pub fn known_results()
     ensures { KnownResults }
 {}
 
-fn refusal(rt: &impl Print, report: Report) -> io::Result<()> {
-    let letter = report.layer.letter();
-    println!(rt;
-        "refused: fault {}, layer {letter}, place {}",
-        report.number, report.place
-    )
+fn refusal<F: Into<Report>>(rt: &impl Print, fault: F) -> io::Result<()> {
+    let report: Report = fault.into();
+    println!(rt; "refused: {report}")
 }
 
-// A constant or a shift of 1 by so much, as a record.
+// A shift of 1 by so much, as a record.
 fn shift(by: u32) -> Result<Record, RecordFault> {
     Record::new(11, by, 1, 0, 0)
 }
@@ -39,7 +36,7 @@ fn shows_shift(rt: &impl Print, by: u32) -> io::Result<()> {
     print!(rt; "record, shift by {by}: ")?;
     match shift(by) {
         Ok(_) => println!(rt; "made"),
-        Err(fault) => refusal(rt, fault.report()),
+        Err(fault) => refusal(rt, fault),
     }
 }
 
@@ -51,9 +48,8 @@ fn install<S: Store>(store: &mut S, third: Record) -> Result<(), RecordFault> {
         third,
         Record::new(12, 5, 3, 0, 0)?,
     ];
-    for i in 0..4 {
-        let n = i as u32 + 1;
-        let _ = store.make(n, records[i]);
+    for (n, what) in (1..5).zip(records) {
+        let _ = store.make(n, what);
         let _ = store.link(n, None);
     }
     Ok(())
@@ -62,7 +58,7 @@ fn install<S: Store>(store: &mut S, third: Record) -> Result<(), RecordFault> {
 fn amount(rt: &impl Print, title: &str, answer: Result<u32, RunFault>) -> io::Result<()> {
     match answer {
         Ok(price) => print!(rt; "{title} {price}"),
-        Err(fault) => refusal(rt, fault.report()),
+        Err(fault) => refusal(rt, fault),
     }
 }
 
@@ -77,12 +73,12 @@ fn prices(rt: &impl Print, title: &str, third: Option<Record>) -> io::Result<()>
     amount(
         rt,
         "Size",
-        runs::pricing::price::<_, Size>(&mut store, &mut scratch),
+        runs::pricing::price::<_, Size>(&store, &mut scratch),
     )?;
     amount(
         rt,
         ", Delay",
-        runs::pricing::price::<_, Delay>(&mut store, &mut scratch),
+        runs::pricing::price::<_, Delay>(&store, &mut scratch),
     )?;
     println!(rt; "")
 }
@@ -107,7 +103,7 @@ fn shows_edits<S: Store + Drop>(rt: &impl Print, store: S) -> io::Result<()> {
     let (accepted, fault) = edit_until_refused(&mut session, 1000);
     print!(rt; "edits in a save: {accepted} accepted, the next ")?;
     match fault {
-        Some(fault) => refusal(rt, fault.report()),
+        Some(fault) => refusal(rt, fault),
         None => println!(rt; "accepted too"),
     }
 }

@@ -1,8 +1,9 @@
 -- A count of the nodes of a use list.
-use Rattle.std.proofs.Common.{◌≡◌, ℕ, suc, ◌+◌, ◌*◌, ◌<◌, ◌≤◌, true, false, cond, eqb, List, [], ◌∷◌, length, get_or, sym, ◌∙◌, subst, arith}
+use Rattle.std.proofs.Common.{◌≡◌, ℕ, suc, ◌+◌, ◌*◌, ◌<◌, ◌≤◌, true, false, cond, eqb, List, [], ◌∷◌, length, get_or, ◌∙◌, arith}
 use Rattle.linked.specs.Rings.{occurs, occurs_here}
-use Rattle.linked.specs.Paths.{Path, Rising, Climbs, climbs_rest}
+use Rattle.linked.specs.Paths.{Path, Climbs, climbs_rest}
 use Rattle.linked.specs.Uses.{spots, spots_climbs, Threaded, node_low}
+use Rattle.linked.proofs.Walks.{onward}
 
 -- so many nodes are counted, and the list zs, whose first node is next, is left
 pub record Rest (size : ℕ) (ls : List ℕ) (total count next : ℕ) : Type 0 where
@@ -47,20 +48,17 @@ module _ (size : ℕ) (ls : List ℕ) (total count next : ℕ) where
   step : (then node : ℕ) (zs : List ℕ) → Path (λ k. get_or ls k 0) node zs → Climbs zs → ((k : ℕ) → 0 < occurs k zs → k < 4 * size) → count + length zs ≡ total → next ≡ get_or ls node 0 → next < 4096 → then ≡ get_or ls next 0 → Rest size ls total (count + 1) then × (next < then)
   step then node [] p c low s l less e = absurd (omega arith)
   step then node (z ∷ zs) p c low s l less e =
-      let is : next ≡ z = l ∙ p.0 in
-      let on : Path (λ k. get_or ls k 0) next zs = subst (λ n. Path (λ k. get_or ls k 0) n zs) (sym is) p.1 in
-      let up : (rest : List ℕ) → Path (λ k. get_or ls k 0) next rest → Rising z rest → next < then
-      = elim [ [] ↦ (λ q r. omega arith) | a ∷ rest ↦ (λ q r. let f = q.0 in let g = r.0 in omega arith) ] in (
+      let on = onward ls node next then z zs p c l less e in (
         record {
           node = next;
           zs = zs;
-          path = on;
+          path = on.1;
           climbs = climbs_rest z zs c;
           low = λ k h. low k (omega arith);
           sum = omega arith;
           link = e;
         },
-        up zs on c,
+        on.2,
       )
 
   pub rest_more : (then : ℕ) → Rest size ls total count next → next < 4096 → then ≡ get_or ls next 0 → Rest size ls total (count + 1) then × (next < then)

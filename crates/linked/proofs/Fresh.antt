@@ -1,8 +1,7 @@
 -- A new linked store.
-use Rattle.std.proofs.Common.{◌≡◌, ℕ, zero, suc, ◌*◌, ◌<◌, ◌≤◌, false, cond, eqb, List, [], ◌∷◌, ◌++◌, map, length, get_or, replicate, None, Option, sym, refl, ap, ◌∙◌, arith}
+use Rattle.std.proofs.Common.{◌≡◌, ℕ, zero, suc, ◌*◌, ◌<◌, ◌≤◌, false, cond, eqb, List, [], ◌∷◌, ◌++◌, map, length, get_or, replicate, None, sym, refl, ap, ◌∙◌, arith}
 use Rattle.std.proofs.lemmas.List.{length-replicate, length-map}
 use Rattle.std.proofs.lemmas.Bool.{ne_eqb}
-use Rattle.ir.specs.Instructions.{Instr}
 use Rattle.program.specs.Programs.{program_of, new_program}
 use Rattle.linked.specs.declared.cells.Body.TheVariants.{Vacant}
 use Rattle.linked.specs.declared.cells.LinkedCell.{LinkedCell}
@@ -10,25 +9,27 @@ use Rattle.linked.specs.LinkedModel.{content, mark, bodies, nexts, prevs, at, pl
 use Rattle.linked.specs.Uses.{spots}
 use Rattle.linked.specs.Slots.{links}
 use Rattle.linked.specs.Table.{table}
-use Rattle.linked.specs.Making.{ranged}
 use Rattle.linked.specs.Facts.{col_length, table_in, Strung, threaded_from}
-use Rattle.linked.specs.Sound.{Sound, blank_cell}
+use Rattle.linked.specs.Slots.{blank_cell}
+use Rattle.linked.proofs.Ordering.{Sound}
 use Rattle.linked.proofs.Orders.{order_unique}
 use Rattle.linked.proofs.Columns.{col_end}
 use Rattle.linked.proofs.Placing.{linked_by}
 
+map_replicate : {X Y : Type 0} (f : X → Y) (m : ℕ) (x : X) → map f (replicate m x) ≡ replicate m (f x)
+map_replicate f zero x = refl
+map_replicate f (suc m) x = ap (λ t. f x ∷ t) (map_replicate f m x)
+
+all_same : {X : Type 0} (m n : ℕ) (x : X) → get_or (replicate m x) n x ≡ x
+all_same zero n x = refl
+all_same (suc m) zero x = refl
+all_same (suc m) (suc n) x = all_same m n x
+
 bodies_fresh : (m : ℕ) → bodies (replicate m blank_cell) ≡ replicate m Vacant
-bodies_fresh zero = refl
-bodies_fresh (suc m) = ap (λ t. Vacant ∷ t) (bodies_fresh m)
+bodies_fresh m = map_replicate (λ c. c.body) m blank_cell
 
 content_fresh : (m : ℕ) → map content (replicate m Vacant) ≡ replicate m None
-content_fresh zero = refl
-content_fresh (suc m) = ap (λ t. None ∷ t) (content_fresh m)
-
-mark_fresh : (m n : ℕ) → mark (get_or (replicate m Vacant) n Vacant) ≡ 0
-mark_fresh zero n = refl
-mark_fresh (suc m) zero = refl
-mark_fresh (suc m) (suc n) = mark_fresh m n
+content_fresh m = map_replicate content m Vacant
 
 count_fresh : (m : ℕ) → placed_count (replicate m Vacant) ≡ 0
 count_fresh zero = refl
@@ -51,11 +52,6 @@ link_fresh (suc m) (suc v) h =
     let z : 4 * suc v ≡ suc (suc (suc (suc (4 * v)))) = omega arith in
     ap (λ k. get_or (links (replicate (suc m) blank_cell)) k 0) z ∙ link_fresh m v (omega arith)
 
-none_fresh : (m n : ℕ) → ◌≡◌ {A = Option Instr} (get_or (replicate m None) n None) None
-none_fresh zero n = refl
-none_fresh (suc m) zero = refl
-none_fresh (suc m) (suc n) = none_fresh m n
-
 module _ (m : ℕ) (few : m ≤ 1024) where
   abbrev xs : List LinkedCell
   xs = replicate m blank_cell
@@ -68,10 +64,10 @@ module _ (m : ℕ) (few : m ≤ 1024) where
       let l = len in
       let b : length (bodies xs) ≡ m = length-map xs (λ c. c.body) ∙ len in
       record {
-        wide = let q = col_length (λ c. c.next) xs m in omega arith;
-        wide_back = let q = col_length (λ c. c.prev) xs m in omega arith;
-        ring = (sym (col_end (λ c. c.next) xs (length (bodies xs)) m (omega arith) (omega arith)) ∙ sym b, sym (col_end (λ c. c.prev) xs (length (bodies xs)) m (omega arith) (omega arith)) ∙ sym b);
-        marks = λ n. ap (λ bs. mark (get_or bs n Vacant)) (bodies_fresh m) ∙ mark_fresh m n;
+        wide = let q = col_length (λ c. c.links.next) xs m in omega arith;
+        wide_back = let q = col_length (λ c. c.links.prev) xs m in omega arith;
+        ring = (sym (col_end (λ c. c.links.next) xs (length (bodies xs)) m (omega arith)) ∙ sym b, sym (col_end (λ c. c.links.prev) xs (length (bodies xs)) m (omega arith)) ∙ sym b);
+        marks = λ n. ap (λ bs. mark (get_or bs n Vacant)) (bodies_fresh m) ∙ ap mark (all_same m n Vacant);
         count = ap placed_count (bodies_fresh m) ∙ count_fresh m;
       }
 
@@ -88,8 +84,11 @@ module _ (m : ℕ) (few : m ≤ 1024) where
       let l = len in
       record {
         linked = linked_by xs m m (bodies xs) (nexts xs m) (prevs xs m) [] refl refl refl chained;
-        woven = threaded_from xs (omega arith) strung;
-        inside = λ n. ap (λ bs. ranged (length xs) (get_or (map content bs) n None)) (bodies_fresh m) ∙ ap (λ cs. ranged (length xs) (get_or cs n None)) (content_fresh m) ∙ ap (ranged (length xs)) (none_fresh m n);
+        listed = threaded_from xs (omega arith) strung;
+        ranged = λ n i e.
+            let none : get_or (map content (bodies xs)) n None ≡ None = ap (λ bs. get_or (map content bs) n None) (bodies_fresh m) ∙ ap (λ cs. get_or cs n None) (content_fresh m) ∙ all_same m n None in
+            let z : ◌≡◌ {A = ℕ} 0 1 = cc in
+            absurd (omega arith);
       }
 
   pub program_fresh : linked_program xs m ≡ new_program m

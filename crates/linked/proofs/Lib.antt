@@ -5,9 +5,8 @@ pub mod Placing
 pub mod Flats
 pub mod Walks
 pub mod Counting
-pub mod Makes
+pub mod Rows
 pub mod Usage
 pub mod Ordering
 pub mod Fresh
-pub mod Knowing
 pub mod Held

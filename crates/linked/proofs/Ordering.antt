@@ -1,38 +1,44 @@
 -- What no fault of a command says of the cells, and what the command leaves.
-use Rattle.std.proofs.Common.{◌≡◌, ℕ, zero, suc, ◌+◌, ◌<◌, ◌≤◌, Bool, true, false, cond, not, ◌&&◌, ◌||◌, eqb, ltb, List, [], ◌∷◌, map, length, get_or, take, drop, set, Some, None, Option, sym, refl, ap, ◌∙◌, subst, inl, inr, ⊎_elim, arith}
-use Rattle.std.specs.Option.{option_or}
+use Rattle.std.proofs.Common.{◌≡◌, ℕ, zero, suc, ◌+◌, ◌<◌, ◌≤◌, Bool, true, false, cond, not, eqb, ltb, List, [], ◌∷◌, map, length, get_or, take, drop, set, Some, None, Option, sym, refl, ap, ◌∙◌, subst, inl, inr, ⊎_elim, arith}
+use Rattle.std.specs.Option.{option_or, unwrap_or}
 use Rattle.std.specs.List.{slice_get}
 use Rattle.std.proofs.lemmas.List.{get_or-set_same, get_or-set_other, length-map, length-set, map-set, take_all}
 use Rattle.linked.proofs.Columns.{col_end}
 use Rattle.std.proofs.lemmas.Bool.{both_ways, ltb-true, lt-ltb, le-ltb, cases_eq, eq-eqb}
 use Rattle.ir.specs.Operations.{arity}
-use Rattle.ir.specs.Instructions.{Instr}
+use Rattle.ir.specs.Instructions.{Instr, plain}
 use Rattle.ir.specs.declared.instruction.Record.{Record}
 use Rattle.program.specs.declared.fault.StoreFault.{StoreFault}
 use Rattle.program.specs.declared.fault.StoreFault.TheVariants.{OutOfRange, WrongState, StillUsed, BadAnchor}
 use Rattle.program.specs.declared.state.State.{State}
 use Rattle.program.specs.declared.state.State.TheVariants.{Free, Loose, Placed as IsPlaced}
-use Rattle.program.specs.Programs.{Program, program_of, cell, busy, held, at as instruction_at, has, index_of, within, operands, is_free, is_loose, is_placed, state_of}
-use Rattle.program.specs.Uses.{uses_from, unused, least_beyond}
-use Rattle.program.specs.Faults.{range_fault, ranges_fault, first_fault, operand_fault, make_fault, rewrite_fault, unmake_fault, link_fault, placed_fault, busy_fault, anchor_range, anchor_fault, unless, when}
+use Rattle.program.specs.Programs.{Program, program_of, index_of, within, operands, is_free, is_loose, is_placed, state_of}
+use Rattle.program.specs.Uses.{uses_from, unused}
+use Rattle.program.specs.Faults.{range_fault, ranges_fault, first_fault, operand_fault, make_fault, rewrite_fault, unmake_fault, link_fault, placed_fault, anchor_range, anchor_fault, unless, when}
 use Rattle.program.specs.Commands.{put, anchor_place}
 use Rattle.program.proofs.Faults.{or_left_none, or_right_none, unless_none, in_turn}
-use Rattle.program.proofs.Accepting.{busy_state}
 use Rattle.linked.specs.declared.cells.Body.{Body}
 use Rattle.linked.specs.declared.cells.Body.TheVariants.{Vacant, Idle, Placed}
 use Rattle.linked.specs.declared.cells.LinkedCell.{LinkedCell}
-use Rattle.linked.specs.Rings.{occurs, occurs_append, Ring, ring_left, ring_right}
-use Rattle.linked.specs.LinkedModel.{content, mark, tag, bodies, nexts, prevs, threads_of, at, order_of, linked_program, Chained, Linked, Anchor}
+use Rattle.linked.specs.Rings.{occurs, Ring}
+use Rattle.linked.specs.LinkedModel.{SameOrder, content, mark, tag, bodies, nexts, prevs, threads_of, at, order_of, linked_program, Chained, Linked, Anchor}
 use Rattle.linked.specs.Uses.{Threaded}
 use Rattle.linked.specs.Slots.{flat, links}
-use Rattle.linked.specs.Facts.{table_in, Ranged}
-use Rattle.linked.specs.Making.{Reads, ranged, body_with}
-use Rattle.linked.specs.States.{within_linked, cell_linked, state_linked, index_in, index_out}
-use Rattle.linked.specs.Sound.{anchor_node, node_number}
+use Rattle.linked.specs.Facts.{table_in, Listed, Ranged}
+use Rattle.linked.specs.Making.{Reads, Inside, body_with}
+use Rattle.linked.specs.States.{within_linked, state_linked, index_in, index_out}
+use Rattle.linked.specs.Reading.{node_number}
 use Rattle.program.specs.Readings.{prior}
 use Rattle.linked.specs.Table.{table}
-use Rattle.linked.proofs.Orders.{count_set, order_unique, end_absent, in_order, cut_whole}
-use Rattle.linked.proofs.Placing.{linked_by, placed_mark}
+use Rattle.linked.proofs.Orders.{chained_at, order_unique, end_absent, in_order}
+use Rattle.linked.proofs.Splicing.{parts, left_ring, right_ring}
+use Rattle.linked.proofs.Placing.{linked_by, placed_mark, loose_mark}
+
+-- the links go along the order, the use lists along the uses, and each operand is a number of the store
+pub record Sound (cells : List LinkedCell) (first last : ℕ) : Type 0 where
+  pub linked : Linked cells first last
+  pub listed : Listed cells
+  pub ranged : Ranged cells
 
 -- ---- no fault
 
@@ -59,10 +65,7 @@ module _ (xs : List LinkedCell) (f : ℕ) where
   pub range_low : (n : ℕ) → range_fault (linked_program xs f) n ≡ None → n < length xs
   range_low n e = ltb-true n (length xs) (sym (within_linked xs f n) ∙ unless_none (within (linked_program xs f) n) (OutOfRange n) e)
 
-  pub make_low : (n : ℕ) (i : Instr) → make_fault (linked_program xs f) n i ≡ None → n < length xs
-  make_low n i e = range_low n (or_left_none _ _ (or_left_none _ _ e))
-
-  pub ranges_reads : (n : ℕ) (i : Instr) → ranges_fault (linked_program xs f) n i ≡ None → Reads i (length xs)
+  ranges_reads : (n : ℕ) (i : Instr) → ranges_fault (linked_program xs f) n i ≡ None → Reads i (length xs)
   ranges_reads n i e =
       let P = linked_program xs f in
       let all : first_fault (range_fault P) (operands i) ≡ None = or_right_none (range_fault P n) (first_fault (range_fault P) (operands i)) e in
@@ -77,27 +80,14 @@ module _ (xs : List LinkedCell) (f : ℕ) where
         c = λ t. range_low i.c (when_none (ltb 2 (arity i.op)) (range_fault P i.c) (or_right_none ob oc rest) t);
       }
 
-  pub make_reads : (n : ℕ) (i : Instr) → make_fault (linked_program xs f) n i ≡ None → Reads i (length xs)
-  make_reads n i e = ranges_reads n i (or_left_none _ _ e)
+  inside_reads : (i j : Instr) → Reads i (length xs) → Some i ≡ Some j → Reads j (length xs)
+  inside_reads i j r e = let s : i ≡ j = cc in subst (λ k. Reads k (length xs)) s r
 
-  pub rewrite_reads : (n : ℕ) (i : Instr) → rewrite_fault (linked_program xs f) n i ≡ None → Reads i (length xs)
-  rewrite_reads n i e = ranges_reads n i (or_left_none _ _ e)
+  pub ranges_inside : (n : ℕ) (i : Instr) → ranges_fault (linked_program xs f) n i ≡ None → Inside (length xs) (Some i)
+  ranges_inside n i e j q = inside_reads i j (ranges_reads n i e) q
 
-  pub rewrite_low : (n : ℕ) (i : Instr) → rewrite_fault (linked_program xs f) n i ≡ None → n < length xs
-  rewrite_low n i e = range_low n (or_left_none _ _ (or_left_none _ _ e))
-
--- what a reading that is not refused says of its number
-module _ (xs : List LinkedCell) (f n : ℕ) where
-  pub busy_here : busy_fault (linked_program xs f) n ≡ None → busy (content (get_or (bodies xs) n Vacant)) ≡ true
-  busy_here e =
-      let p = linked_program xs f in
-      let test = not (is_free (state_of p n)) in
-      sym (ap busy (cell_linked xs f n))
-      ∙ sym (busy_state (cell p n) (has n p.order))
-      ∙ unless_none test (WrongState n) (or_right_none (range_fault p n) (unless test (WrongState n)) e)
-
-  pub body_held : (b : Body) → b ≡ get_or (bodies xs) n Vacant → held (content b) ≡ instruction_at (linked_program xs f) n
-  body_held b e = ap (λ d. held (content d)) e ∙ sym (ap held (cell_linked xs f n))
+  pub hold_low : (n : ℕ) (i : Instr) → ranges_fault (linked_program xs f) n i ≡ None → n < length xs
+  hold_low n i e = range_low n (or_left_none _ _ e)
 
 module _ (xs : List LinkedCell) (f l : ℕ) (is : Linked xs f l) where
   abbrev P : Program
@@ -134,14 +124,14 @@ module _ (xs : List LinkedCell) (f l : ℕ) (is : Linked xs f l) where
         let q : is_loose (state_of P n) ≡ true = unless_none _ (WrongState n) (or_left_none state_part (anchor_fault P anchor) rest) in
         sym (state_linked xs f l is n) ∙ state_loose (state_of P n) q
 
-  anchor_ok : (anchor : Option ℕ) → anchor_fault P anchor ≡ None → Anchor xs (anchor_node xs anchor)
+  anchor_ok : (anchor : Option ℕ) → anchor_fault P anchor ≡ None → Anchor xs (unwrap_or anchor (length xs))
   anchor_ok None e = inl refl
   anchor_ok (Some a) e = inr (sym (state_linked xs f l is a) ∙ state_placed (state_of P a) (unless_none _ (BadAnchor a) e))
 
-  pub link_anchor : (n : ℕ) (anchor : Option ℕ) → link_fault P n anchor ≡ None → Anchor xs (anchor_node xs anchor)
+  pub link_anchor : (n : ℕ) (anchor : Option ℕ) → link_fault P n anchor ≡ None → Anchor xs (unwrap_or anchor (length xs))
   link_anchor n anchor e = anchor_ok anchor (or_right_none (state_part n anchor e) (anchor_fault P anchor) (rest n anchor e))
 
-  pub link_place : (anchor : Option ℕ) → index_of (anchor_node xs anchor) o ≡ anchor_place P anchor
+  pub link_place : (anchor : Option ℕ) → index_of (unwrap_or anchor (length xs)) o ≡ anchor_place P anchor
   link_place None =
       let m = length-map xs (λ c. c.body) in
       ap (λ k. index_of k o) (sym m) ∙ index_out (length bs) o (end_absent bs (nexts xs f) (prevs xs l) o is)
@@ -151,12 +141,6 @@ module _ (xs : List LinkedCell) (f l : ℕ) (is : Linked xs f l) where
   unlink_placed n e =
       let q : is_placed (state_of P n) ≡ true = unless_none _ (WrongState n) (or_right_none (range_fault P n) (unless (is_placed (state_of P n)) (WrongState n)) e) in
       sym (state_linked xs f l is n) ∙ state_placed (state_of P n) q
-
-  pub unlink_low : (n : ℕ) → placed_fault P n ≡ None → n < length xs
-  unlink_low n e = range_low xs f n (or_left_none _ _ e)
-
-  pub used_low : (n : ℕ) → busy_fault P n ≡ None → n < length xs
-  used_low n e = range_low xs f n (or_left_none _ _ e)
 
   -- ---- the number after another
   nth_drop : (os : List ℕ) (k : ℕ) → slice_get os k ≡ slice_get (drop k os) 0
@@ -178,12 +162,11 @@ module _ (xs : List LinkedCell) (f l : ℕ) (is : Linked xs f l) where
       let k = is.marks n in
       let placed : 0 < occurs n o = omega arith in
       let i = index_of n o in
-      let ring = ring_right (at (nexts xs f)) (at (prevs xs l)) (length bs) (take i o) n (drop (suc i) o) (length bs) (subst (λ os. Ring (at (nexts xs f)) (at (prevs xs l)) (length bs) os (length bs)) (cut_whole n o placed) is.ring) in
-      let parts : (j : ℕ) → occurs j (take i o) + occurs j (n ∷ drop (suc i) o) ≡ occurs j o = λ j. sym (occurs_append j (take i o) (n ∷ drop (suc i) o)) ∙ ap (occurs j) (sym (cut_whole n o placed)) in
+      let ring = right_ring bs (nexts xs f) (prevs xs l) o is n placed in
       let suc_i : i + 1 ≡ suc i = omega arith in
       ap (slice_get o) suc_i
       ∙ nth_drop o (suc i)
-      ∙ follows n (drop (suc i) o) ring (λ j h. let p = parts j in in_order bs (nexts xs f) (prevs xs l) o is j (omega arith))
+      ∙ follows n (drop (suc i) o) ring (λ j h. let p = parts bs (nexts xs f) (prevs xs l) o is n placed j in in_order bs (nexts xs f) (prevs xs l) o is j (omega arith))
       ∙ ap (λ s. node_number s (at (nexts xs f) n)) (length-map xs (λ c. c.body))
 
   -- ---- the first, and the number before another
@@ -191,7 +174,7 @@ module _ (xs : List LinkedCell) (f l : ℕ) (is : Linked xs f l) where
   first_number =
       let m = length-map xs (λ c. c.body) in
       follows (length bs) o is.ring (λ k h. in_order bs (nexts xs f) (prevs xs l) o is k h)
-      ∙ ap (node_number (length bs)) (sym (col_end (λ c. c.next) xs (length bs) f (omega arith) (omega arith)))
+      ∙ ap (node_number (length bs)) (sym (col_end (λ c. c.links.next) xs (length bs) f (omega arith)))
       ∙ ap (λ s. node_number s f) m
 
   -- the last of a list, or x
@@ -221,7 +204,7 @@ module _ (xs : List LinkedCell) (f l : ℕ) (is : Linked xs f l) where
       let placed : 0 < occurs n o = omega arith in
       let i = index_of n o in
       let h = index_in n o placed in
-      let ring = ring_left (at (nexts xs f)) (at (prevs xs l)) (length bs) (take i o) n (drop (suc i) o) (length bs) (subst (λ os. Ring (at (nexts xs f)) (at (prevs xs l)) (length bs) os (length bs)) (cut_whole n o placed) is.ring) in
+      let ring = left_ring bs (nexts xs f) (prevs xs l) o is n placed in
       before_take i (omega arith)
       ∙ ap (node_number (length bs)) (sym (lead (length bs) (take i o) n ring))
       ∙ ap (λ s. node_number s (at (prevs xs l) n)) (length-map xs (λ c. c.body))
@@ -232,25 +215,13 @@ module _ (xs : List LinkedCell) (f l : ℕ) (is : Linked xs f l) where
       before_take (length o) (omega arith)
       ∙ ap (λ os. node_number (length bs) (last_of (length bs) os)) (take_all (length o) o (omega arith))
       ∙ ap (node_number (length bs)) (sym (lead (length bs) o (length bs) is.ring))
-      ∙ ap (node_number (length bs)) (sym (col_end (λ c. c.prev) xs (length bs) l (omega arith) (omega arith)))
+      ∙ ap (node_number (length bs)) (sym (col_end (λ c. c.links.prev) xs (length bs) l (omega arith)))
       ∙ ap (λ s. node_number s l) m
 
 -- ---- a write of a body that keeps its mark
 module _ (bs : List Body) (ns ps o : List ℕ) (is : Chained bs ns ps o) (n : ℕ) (b : Body) (h : n < length bs) (same : mark b ≡ mark (get_or bs n Vacant)) where
-  pub chained_kept : Chained (set bs n b) ns ps o
-  chained_kept =
-      let len = length-set bs n b in
-      record {
-        wide = is.wide ∙ ap (λ k. k + 1) (sym len);
-        wide_back = is.wide_back ∙ ap (λ k. k + 1) (sym len);
-        ring = subst (λ s. Ring (at ns) (at ps) s o s) (sym len) is.ring;
-        marks = λ k.
-            ⊎_elim
-            (λ e. ap (λ j. mark (get_or (set bs n b) j Vacant)) e ∙ ap mark (get_or-set_same bs n b Vacant h) ∙ same ∙ ap (λ j. mark (get_or bs j Vacant)) (sym e) ∙ is.marks k)
-            (λ ne. ap mark (get_or-set_other bs n k b Vacant ne) ∙ is.marks k)
-            (cases_eq k n);
-        count = let q = count_set bs n b h in let c = is.count in omega arith;
-      }
+  chained_kept : Chained (set bs n b) ns ps o
+  chained_kept = chained_at bs ns ps o is n b ns ps o h (λ k ne. refl) (sym (is.marks n) ∙ sym same) (ap (λ m. length o + m) (sym same)) is.wide is.wide_back is.ring
 
 -- cells after a write of a body
 module _ (xs ys : List LinkedCell) (f l : ℕ) (is : Linked xs f l) (n : ℕ) (b : Body) (h : n < length xs) (same : mark b ≡ mark (get_or (bodies xs) n Vacant)) (eb : bodies ys ≡ set (bodies xs) n b) (en : nexts ys f ≡ nexts xs f) (ep : prevs ys l ≡ prevs xs l) where
@@ -275,104 +246,88 @@ module _ (xs ys : List LinkedCell) (f l : ℕ) (is : Linked xs f l) (n : ℕ) (b
 same_size : (xs ys : List LinkedCell) → map content (bodies ys) ≡ map content (bodies xs) → length xs ≡ length ys
 same_size xs ys e = sym (length-map xs (λ c. c.body)) ∙ sym (length-map (bodies xs) content) ∙ ap length (sym e) ∙ length-map (bodies ys) content ∙ length-map ys (λ c. c.body)
 
-pub woven_kept : (xs ys : List LinkedCell) → map content (bodies ys) ≡ map content (bodies xs) → threads_of ys ≡ threads_of xs → Threaded (length xs) (table_in xs) (links xs) → Threaded (length ys) (table_in ys) (links ys)
-woven_kept xs ys e t w =
+pub listed_kept : (xs ys : List LinkedCell) → map content (bodies ys) ≡ map content (bodies xs) → threads_of ys ≡ threads_of xs → Listed xs → Listed ys
+listed_kept xs ys e t w =
     subst (λ s. Threaded s (table_in ys) (links ys)) (same_size xs ys e)
     (subst (λ ls. Threaded (length xs) (table_in ys) ls) (ap flat (sym t))
     (subst (λ qs. Threaded (length xs) qs (links xs)) (ap table (sym e)) w))
 
--- ---- operands in range
-or_use : (p q : Bool) → (not p || q) ≡ true → p ≡ true → q ≡ true
-or_use true q e h = e
-or_use false q e h = let z : ◌≡◌ {A = ℕ} 0 1 = cc in absurd (omega arith)
-
-or_make : (p q : Bool) → (p ≡ true → q ≡ true) → (not p || q) ≡ true
-or_make true q f = f refl
-or_make false q f = refl
-
-and_left : (p q : Bool) → (p && q) ≡ true → p ≡ true
-and_left true q e = refl
-and_left false q e = e
-
-and_right : (p q : Bool) → (p && q) ≡ true → q ≡ true
-and_right true q e = e
-and_right false q e = let z : ◌≡◌ {A = ℕ} 0 1 = cc in absurd (omega arith)
-
-and_make : (p q : Bool) → p ≡ true → q ≡ true → (p && q) ≡ true
-and_make p q e f = ap (λ b. b && q) e ∙ f
-
-module _ (size : ℕ) (i : Instr) where
-  abbrev ta : Bool
-  ta = not (ltb 0 (arity i.op)) || ltb i.a size
-
-  abbrev tb : Bool
-  tb = not (ltb 1 (arity i.op)) || ltb i.b size
-
-  abbrev tc : Bool
-  tc = not (ltb 2 (arity i.op)) || ltb i.c size
-
-  pub reads_ranged : ranged size (Some i) ≡ true → Reads i size
-  reads_ranged e =
-      let r = and_right ta (tb && tc) e in
-      record {
-        a = λ h. ltb-true i.a size (or_use (ltb 0 (arity i.op)) (ltb i.a size) (and_left ta (tb && tc) e) h);
-        b = λ h. ltb-true i.b size (or_use (ltb 1 (arity i.op)) (ltb i.b size) (and_left tb tc r) h);
-        c = λ h. ltb-true i.c size (or_use (ltb 2 (arity i.op)) (ltb i.c size) (and_right tb tc r) h);
-      }
-
-  pub ranged_reads : Reads i size → ranged size (Some i) ≡ true
-  ranged_reads r =
-      and_make ta (tb && tc)
-      (or_make (ltb 0 (arity i.op)) (ltb i.a size) (λ h. lt-ltb i.a size (r.a h)))
-      (and_make tb tc
-      (or_make (ltb 1 (arity i.op)) (ltb i.b size) (λ h. lt-ltb i.b size (r.b h)))
-      (or_make (ltb 2 (arity i.op)) (ltb i.c size) (λ h. lt-ltb i.c size (r.c h))))
-
 pub ranged_kept : (xs ys : List LinkedCell) → map content (bodies ys) ≡ map content (bodies xs) → Ranged xs → Ranged ys
-ranged_kept xs ys e r n = ap (λ s. ranged s (get_or (map content (bodies ys)) n None)) (sym (same_size xs ys e)) ∙ ap (λ cs. ranged (length xs) (get_or cs n None)) e ∙ r n
+ranged_kept xs ys e r n i q = subst (Reads i) (same_size xs ys e) (r n i (ap (λ cs. get_or cs n None) (sym e) ∙ q))
 
-pub ranged_set : (xs ys : List LinkedCell) (n : ℕ) (b : Body) → n < length xs → bodies ys ≡ set (bodies xs) n b → ranged (length xs) (content b) ≡ true → Ranged xs → Ranged ys
-ranged_set xs ys n b h e t r k =
+ranged_set : (xs ys : List LinkedCell) (n : ℕ) (b : Body) → n < length xs → bodies ys ≡ set (bodies xs) n b → Inside (length xs) (content b) → Ranged xs → Ranged ys
+ranged_set xs ys n b h e t r k i q =
     let cs = map content (bodies xs) in
     let m = length-map xs (λ c. c.body) in
     let w = length-map (bodies xs) content in
     let len : length xs ≡ length ys = sym (sym (length-map ys (λ c. c.body)) ∙ ap length e ∙ length-set (bodies xs) n b ∙ m) in
-    let new : map content (bodies ys) ≡ set cs n (content b) = ap (map content) e ∙ map-set content (bodies xs) n b in
-    ap (λ s. ranged s (get_or (map content (bodies ys)) k None)) (sym len)
-    ∙ ap (λ c. ranged (length xs) (get_or c k None)) new
-    ∙ ⊎_elim
-    (λ q. ap (λ j. ranged (length xs) (get_or (set cs n (content b)) j None)) q ∙ ap (ranged (length xs)) (get_or-set_same cs n (content b) None (omega arith)) ∙ t)
-    (λ ne. ap (ranged (length xs)) (get_or-set_other cs n k (content b) None ne) ∙ r k)
-    (cases_eq k n)
+    let here : get_or (set cs n (content b)) k None ≡ Some i = ap (λ c. get_or c k None) (sym (ap (map content) e ∙ map-set content (bodies xs) n b)) ∙ q in
+    subst (Reads i) len
+    (⊎_elim
+    (λ s. t i (sym (get_or-set_same cs n (content b) None (omega arith)) ∙ ap (λ j. get_or (set cs n (content b)) j None) (sym s) ∙ here))
+    (λ ne. r k i (sym (get_or-set_other cs n k (content b) None ne) ∙ here))
+    (cases_eq k n))
 
-pub reads_at : (xs : List LinkedCell) (n : ℕ) (i : Instr) → Ranged xs → content (get_or (bodies xs) n Vacant) ≡ Some i → Reads i (length xs)
-reads_at xs n i r e = reads_ranged (length xs) i (ap (ranged (length xs)) (sym (cell_linked xs 0 n ∙ e)) ∙ r n)
-
-pub with_mark : (b : Body) (r : Record) → mark (body_with b r) ≡ mark b
+with_mark : (b : Body) (r : Record) → mark (body_with b r) ≡ mark b
 with_mark Vacant r = refl
 with_mark (Idle q) r = refl
 with_mark (Placed q) r = refl
 
--- ---- unmake
-pub unused_none : (us : List (ℕ × ℕ)) → None ≡ least_beyond None us → true ≡ unused us
-unused_none [] e = refl
-unused_none (u ∷ us) e = let z : ◌≡◌ {A = ℕ} 0 1 = cc in absurd (omega arith)
+with_content : (b : Body) (r : Record) → (b ≡ Vacant → ⊥) → content (body_with b r) ≡ Some (plain r)
+with_content Vacant r ne = absurd (ne refl)
+with_content (Idle q) r ne = refl
+with_content (Placed q) r ne = refl
 
-pub unused_some : (us : List (ℕ × ℕ)) (y : ℕ × ℕ) → Some y ≡ least_beyond None us → false ≡ unused us
-unused_some [] y e = let z : ◌≡◌ {A = ℕ} 0 1 = cc in absurd (omega arith)
-unused_some (u ∷ us) y e = refl
+-- ---- bodies that may be written
 
-pub unmake_loose : (xs : List LinkedCell) (f l : ℕ) → Linked xs f l → (n : ℕ) → unmake_fault (linked_program xs f) n ≡ None → tag (get_or (bodies xs) n Vacant) ≡ Loose
-unmake_loose xs f l is n e =
-    let P = linked_program xs f in
-    let q : is_loose (state_of P n) ≡ true = unless_none _ (WrongState n) (or_left_none (unless (is_loose (state_of P n)) (WrongState n)) (unless (unused (uses_from n 0 P.cells)) (StillUsed n)) (or_right_none (range_fault P n) _ e)) in
-    sym (state_linked xs f l is n) ∙ state_loose (state_of P n) q
+-- n keeps its place in the order, and the operands of b are numbers of the store
+pub record Allowed (xs : List LinkedCell) (n : ℕ) (b : Body) : Type 0 where
+  pub within : n < length xs
+  pub same : mark b ≡ mark (get_or (bodies xs) n Vacant)
+  pub inside : Inside (length xs) (content b)
 
-pub unmake_low : (xs : List LinkedCell) (f n : ℕ) → unmake_fault (linked_program xs f) n ≡ None → n < length xs
-unmake_low xs f n e = range_low xs f n (or_left_none _ _ e)
+-- what a written body leaves of a sound store
+module _ (xs ys : List LinkedCell) (f l : ℕ) (is : Sound xs f l) (n : ℕ) (b : Body) (a : Allowed xs n b) (listed : Listed ys) (order : SameOrder xs ys) (eb : bodies ys ≡ set (bodies xs) n b) where
+  pub put_sound : Sound ys f l
+  put_sound = record {
+    linked = linked_kept xs ys f l is.linked n b a.within a.same eb (order.nexts f) (order.prevs l);
+    listed = listed;
+    ranged = ranged_set xs ys n b a.within eb a.inside is.ranged;
+  }
 
-pub not_loose_vacant : (b : Body) → tag b ≡ Loose → Vacant ≡ b → ⊥
-not_loose_vacant b e v = let z : tag Vacant ≡ Loose = ap tag v ∙ e in let y : ◌≡◌ {A = ℕ} 0 1 = cc in omega arith
+  pub put_program : linked_program ys f ≡ put (linked_program xs f) n (content b)
+  put_program = program_kept xs ys f l is.linked n b a.within a.same eb (order.nexts f) (order.prevs l)
 
-pub not_loose_placed : (b : Body) (r : Record) → tag b ≡ Loose → Placed r ≡ b → ⊥
-not_loose_placed b r e v = let z : tag (Placed r) ≡ Loose = ap tag v ∙ e in let y : ◌≡◌ {A = ℕ} 0 1 = cc in omega arith
+module _ (xs : List LinkedCell) (f l : ℕ) (is : Linked xs f l) (n : ℕ) where
+  abbrev p : Program
+  p = linked_program xs f
+
+  pub make_allowed : (what : Record) → make_fault p n (plain what) ≡ None → Allowed xs n (Idle what)
+  make_allowed what e =
+      let r = or_left_none _ _ e in
+      record { within = hold_low xs f n (plain what) r; same = sym (ap mark (make_free xs f l is n (plain what) e)); inside = ranges_inside xs f n (plain what) r }
+
+  module _ (what : Record) (b : Body) (is_b : b ≡ body_with (get_or (bodies xs) n Vacant) what) (e : rewrite_fault p n (plain what) ≡ None) where
+    pub rewrite_content : content b ≡ Some (plain what)
+    rewrite_content = ap content is_b ∙ with_content (get_or (bodies xs) n Vacant) what (rewrite_held xs f l is n (plain what) e)
+
+    pub rewrite_allowed : Allowed xs n b
+    rewrite_allowed =
+        let r = or_left_none _ _ e in
+        record {
+          within = hold_low xs f n (plain what) r;
+          same = ap mark is_b ∙ with_mark (get_or (bodies xs) n Vacant) what;
+          inside = subst (Inside (length xs)) (sym rewrite_content) (ranges_inside xs f n (plain what) r);
+        }
+
+  loose_unmarked : (b : Body) → tag b ≡ Loose → mark Vacant ≡ mark b
+  loose_unmarked b e = sym (loose_mark b e).0
+
+  pub unmake_allowed : unmake_fault p n ≡ None → Allowed xs n Vacant
+  unmake_allowed e =
+      let q : is_loose (state_of p n) ≡ true = unless_none _ (WrongState n) (or_left_none (unless (is_loose (state_of p n)) (WrongState n)) (unless (unused (uses_from n 0 p.cells)) (StillUsed n)) (or_right_none (range_fault p n) _ e)) in
+      record {
+        within = range_low xs f n (or_left_none _ _ e);
+        same = loose_unmarked (get_or (bodies xs) n Vacant) (sym (state_linked xs f l is n) ∙ state_loose (state_of p n) q);
+        inside = λ j z. let y : ◌≡◌ {A = ℕ} 0 1 = cc in absurd (omega arith);
+      }

@@ -1,32 +1,14 @@
 -- A link and an unlink, by the writes to the two lists of links.
-use Rattle.std.proofs.Common.{◌≡◌, ℕ, suc, ◌+◌, ◌<◌, ◌≤◌, cond, ◌⊎◌, List, [], ◌∷◌, ◌++◌, length, get_or, take, drop, set, sym, refl, ap, ◌∙◌, subst, inl, inr, ⊎_elim, append_assoc, append-nil, arith}
-use Rattle.std.proofs.lemmas.Bool.{ne_eqb}
+use Rattle.std.proofs.Common.{◌≡◌, ℕ, suc, ◌+◌, ◌<◌, ◌≤◌, ◌⊎◌, List, [], ◌∷◌, ◌++◌, length, get_or, take, drop, set, sym, refl, ap, ◌∙◌, subst, inl, inr, ⊎_elim, append_assoc, append-nil, arith}
 use Rattle.std.specs.List.{insert}
 use Rattle.std.proofs.lemmas.List.{get_or-set_same, get_or-set_other, length-set, take_all, drop_all}
 use Rattle.program.specs.Programs.{index_of}
 use Rattle.linked.specs.declared.cells.Body.{Body}
 use Rattle.linked.specs.declared.cells.Body.TheVariants.{Vacant}
-use Rattle.linked.specs.Rings.{occurs, Ring, occurs_append, occurs_here, absent_head, absent_rest, ring_join, ring_left, ring_right, ring_before, ring_after, Spliced, splice_else, splice_end, Unspliced, unsplice}
-use Rattle.linked.specs.LinkedModel.{mark, at, Chained}
+use Rattle.linked.specs.Rings.{occurs, Ring, occurs_append, occurs_here, ring_join, ring_left, ring_right, ring_before, ring_after, Spliced, splice_else, splice_end, Unspliced, unsplice}
+use Rattle.linked.specs.LinkedModel.{mark, at, Chained, next_in, prev_in, next_out, prev_out}
+use Rattle.linked.specs.States.{index_out}
 use Rattle.linked.proofs.Orders.{cut, cut_whole, in_order, end_absent, once, chained_linked, chained_unlinked}
-
-absent_index : (t : ℕ) (o : List ℕ) → occurs t o ≡ 0 → index_of t o ≡ length o
-absent_index t [] h = refl
-absent_index t (x ∷ xs) h =
-    ap (λ b. cond b 0 (suc (index_of t xs))) (ne_eqb x t (absent_head t x xs h)) ∙ ap suc (absent_index t xs (absent_rest t x xs h))
-
--- the links after n went between t and the node before it
-abbrev pub next_in : List ℕ → List ℕ → ℕ → ℕ → List ℕ
-next_in ns ps n t = set (set ns (at ps t) n) n t
-
-abbrev pub prev_in : List ℕ → ℕ → ℕ → List ℕ
-prev_in ps n t = set (set ps n (at ps t)) t n
-
-abbrev pub next_out : List ℕ → List ℕ → ℕ → List ℕ
-next_out ns ps n = set ns (at ps n) (at ns n)
-
-abbrev pub prev_out : List ℕ → List ℕ → ℕ → List ℕ
-prev_out ns ps n = set ps (at ns n) (at ps n)
 
 spliced : (ns ps : List ℕ) (n t : ℕ) → at ns (at ps t) ≡ t → at ps t < length ns → n < length ns → n < length ps → t < length ps → (at ps t ≡ n → ⊥) → (n ≡ t → ⊥) → Spliced (at ns) (at ps) (at (next_in ns ps n t)) (at (prev_in ps n t)) (at ps t) n t
 spliced ns ps n t back hm hn hp ht mn nt =
@@ -64,6 +46,29 @@ module _ (bs : List Body) (ns ps o : List ℕ) (is : Chained bs ns ps o) where
   near_low : (k : ℕ) → (k ≡ length bs) ⊎ (0 < occurs k o) → k ≤ length bs
   near_low k = ⊎_elim (λ e. omega arith) (λ h. let l = in_order bs ns ps o is k h in omega arith)
 
+  -- the order, cut at a number that stands in it
+  module _ (t : ℕ) (placed : 0 < occurs t o) where
+    abbrev l : List ℕ
+    l = take (index_of t o) o
+
+    abbrev r : List ℕ
+    r = drop (suc (index_of t o)) o
+
+    pub parts : (k : ℕ) → occurs k l + occurs k (t ∷ r) ≡ occurs k o
+    parts k = sym (occurs_append k l (t ∷ r)) ∙ ap (occurs k) (sym (cut_whole t o placed))
+
+    sub : (k : ℕ) → occurs k l ≤ occurs k o
+    sub k = let p = parts k in omega arith
+
+    whole_ring : Ring (at ns) (at ps) (length bs) (l ++ (t ∷ r)) (length bs)
+    whole_ring = subst (λ os. Ring (at ns) (at ps) (length bs) os (length bs)) (cut_whole t o placed) is.ring
+
+    pub left_ring : Ring (at ns) (at ps) (length bs) l t
+    left_ring = ring_left (at ns) (at ps) (length bs) l t r (length bs) whole_ring
+
+    pub right_ring : Ring (at ns) (at ps) t r (length bs)
+    right_ring = ring_right (at ns) (at ps) (length bs) l t r (length bs) whole_ring
+
   module _ (n : ℕ) (b : Body) (h : n < length bs) (was : mark (get_or bs n Vacant) ≡ 0) (now : mark b ≡ 1) where
     n_absent : occurs n o ≡ 0
     n_absent = sym (is.marks n) ∙ was
@@ -98,53 +103,35 @@ module _ (bs : List Body) (ns ps o : List ℕ) (is : Chained bs ns ps o) where
 
     -- before a placed number
     module _ (t : ℕ) (placed : 0 < occurs t o) where
-      abbrev l : List ℕ
-      l = take (index_of t o) o
-
-      abbrev r : List ℕ
-      r = drop (suc (index_of t o)) o
-
-      parts : (k : ℕ) → occurs k l + occurs k (t ∷ r) ≡ occurs k o
-      parts k = sym (occurs_append k l (t ∷ r)) ∙ ap (occurs k) (sym (cut_whole t o placed))
-
-      whole_ring : Ring (at ns) (at ps) (length bs) (l ++ (t ∷ r)) (length bs)
-      whole_ring = subst (λ os. Ring (at ns) (at ps) (length bs) os (length bs)) (cut_whole t o placed) is.ring
-
-      left_ring : Ring (at ns) (at ps) (length bs) l t
-      left_ring = ring_left (at ns) (at ps) (length bs) l t r (length bs) whole_ring
-
-      sub : (k : ℕ) → occurs k l ≤ occurs k o
-      sub k = let p = parts k in omega arith
-
-      pub chained_before : Chained (set bs n b) (next_in ns ps n t) (prev_in ps n t) (l ++ (n ∷ (t ∷ r)))
+      pub chained_before : Chained (set bs n b) (next_in ns ps n t) (prev_in ps n t) (l t placed ++ (n ∷ (t ∷ r t placed)))
       chained_before =
           let nx = at (next_in ns ps n t) in
           let pv = at (prev_in ps n t) in
-          let s = link_splice l t left_ring sub (inr placed) in
-          let pt = parts t in
-          let here = occurs_here t r in
-          let pn = parts n in
+          let s = link_splice (l t placed) t (left_ring t placed) (sub t placed) (inr placed) in
+          let pt = parts t placed t in
+          let here = occurs_here t (r t placed) in
+          let pn = parts t placed n in
           let one = once bs ns ps o is t in
           let a = n_absent in
           let low = in_order bs ns ps o is t placed in
           let tn : t ≡ n → ⊥ = apart t (inr placed) in
-          let ln : occurs n l ≡ 0 = omega arith in
-          let rn : occurs n r ≡ 0 = omega arith in
-          let lt : occurs t l ≡ 0 = omega arith in
-          let rt : occurs t r ≡ 0 = omega arith in
-          let front = splice_end (at ns) (at ps) nx pv (at ps t) n t s (length bs) l left_ring (λ e. omega arith) ln lt in
-          let back = splice_else (at ns) (at ps) nx pv (at ps t) n t s t r (length bs) (ring_right (at ns) (at ps) (length bs) l t r (length bs) whole_ring) tn rn (λ e. omega arith) rt (λ e. omega arith) in
-          chained_linked bs ns ps o is n b (next_in ns ps n t) (prev_in ps n t) l (t ∷ r) h was now (cut_whole t o placed)
-          (wide_next l t left_ring sub (inr placed))
-          (wide_prev l t left_ring sub (inr placed))
-          (subst (λ os. Ring nx pv (length bs) os (length bs)) (append_assoc l (n ∷ []) (t ∷ r)) (ring_join nx pv (length bs) (l ++ (n ∷ [])) t r (length bs) front back))
+          let ln : occurs n (l t placed) ≡ 0 = omega arith in
+          let rn : occurs n (r t placed) ≡ 0 = omega arith in
+          let lt : occurs t (l t placed) ≡ 0 = omega arith in
+          let rt : occurs t (r t placed) ≡ 0 = omega arith in
+          let front = splice_end (at ns) (at ps) nx pv (at ps t) n t s (length bs) (l t placed) (left_ring t placed) (λ e. omega arith) ln lt in
+          let back = splice_else (at ns) (at ps) nx pv (at ps t) n t s t (r t placed) (length bs) (right_ring t placed) tn rn (λ e. omega arith) rt (λ e. omega arith) in
+          chained_linked bs ns ps o is n b (next_in ns ps n t) (prev_in ps n t) (l t placed) (t ∷ r t placed) h was now (cut_whole t o placed)
+          (wide_next (l t placed) t (left_ring t placed) (sub t placed) (inr placed))
+          (wide_prev (l t placed) t (left_ring t placed) (sub t placed) (inr placed))
+          (subst (λ os. Ring nx pv (length bs) os (length bs)) (append_assoc (l t placed) (n ∷ []) (t ∷ r t placed)) (ring_join nx pv (length bs) (l t placed ++ (n ∷ [])) t (r t placed) (length bs) front back))
 
     -- either way
     pub chained_in : (t : ℕ) → (t ≡ length bs) ⊎ (0 < occurs t o) → Chained (set bs n b) (next_in ns ps n t) (prev_in ps n t) (insert o (index_of t o) n)
     chained_in t =
         ⊎_elim
         (λ e.
-        let i : index_of t o ≡ length o = absent_index t o (ap (λ k. occurs k o) e ∙ end_absent bs ns ps o is) in
+        let i : index_of t o ≡ length o = index_out t o (ap (λ k. occurs k o) e ∙ end_absent bs ns ps o is) in
         let le : length o ≤ index_of t o = omega arith in
         let same : o ++ (n ∷ []) ≡ insert o (index_of t o) n =
         sym (ap (λ a. a ++ (n ∷ drop (index_of t o) o)) (take_all (index_of t o) o le) ∙ ap (λ a. o ++ (n ∷ a)) (drop_all (index_of t o) o le)) in
@@ -161,45 +148,27 @@ module _ (bs : List Body) (ns ps o : List ℕ) (is : Chained bs ns ps o) where
 
   -- an unlink
   module _ (n : ℕ) (b : Body) (was : mark (get_or bs n Vacant) ≡ 1) (now : mark b ≡ 0) where
-    abbrev left : List ℕ
-    left = take (index_of n o) o
-
-    abbrev right : List ℕ
-    right = drop (suc (index_of n o)) o
-
     n_placed : 0 < occurs n o
     n_placed = let e = is.marks n in omega arith
 
-    out_parts : (k : ℕ) → occurs k left + occurs k (n ∷ right) ≡ occurs k o
-    out_parts k = sym (occurs_append k left (n ∷ right)) ∙ ap (occurs k) (sym (cut_whole n o n_placed))
-
-    out_ring : Ring (at ns) (at ps) (length bs) (left ++ (n ∷ right)) (length bs)
-    out_ring = subst (λ os. Ring (at ns) (at ps) (length bs) os (length bs)) (cut_whole n o n_placed) is.ring
-
-    front_ring : Ring (at ns) (at ps) (length bs) left n
-    front_ring = ring_left (at ns) (at ps) (length bs) left n right (length bs) out_ring
-
-    back_ring : Ring (at ns) (at ps) n right (length bs)
-    back_ring = ring_right (at ns) (at ps) (length bs) left n right (length bs) out_ring
-
     pub prev_low : at ps n ≤ length bs
-    prev_low = near_low (at ps n) (before_near left n front_ring (λ k. let p = out_parts k in omega arith))
+    prev_low = near_low (at ps n) (before_near (l n n_placed) n (left_ring n n_placed) (sub n n_placed))
 
     pub next_low : at ns n ≤ length bs
-    next_low = near_low (at ns n) (⊎_elim (λ e. inl e) (λ p. inr (let q = out_parts (at ns n) in omega arith)) (ring_after (at ns) (at ps) n right (length bs) back_ring).1)
+    next_low = near_low (at ns n) (⊎_elim (λ e. inl e) (λ p. inr (let q = parts n n_placed (at ns n) in omega arith)) (ring_after (at ns) (at ps) n (r n n_placed) (length bs) (right_ring n n_placed)).1)
 
-    pub chained_out : Chained (set bs n b) (next_out ns ps n) (prev_out ns ps n) (left ++ right)
+    pub chained_out : Chained (set bs n b) (next_out ns ps n) (prev_out ns ps n) (take (index_of n o) o ++ drop (suc (index_of n o)) o)
     chained_out =
         let w = is.wide in
         let v = is.wide_back in
         let pl = prev_low in
         let nl = next_low in
-        let s = unspliced ns ps n (ring_before (at ns) (at ps) (length bs) left n front_ring).0 (ring_after (at ns) (at ps) n right (length bs) back_ring).0 (omega arith) (omega arith) in
+        let s = unspliced ns ps n (ring_before (at ns) (at ps) (length bs) (l n n_placed) n (left_ring n n_placed)).0 (ring_after (at ns) (at ps) n (r n n_placed) (length bs) (right_ring n n_placed)).0 (omega arith) (omega arith) in
         let low = in_order bs ns ps o is n n_placed in
-        let pt = out_parts n in
-        let here = occurs_here n right in
+        let pt = parts n n_placed n in
+        let here = occurs_here n (r n n_placed) in
         let one = once bs ns ps o is n in
-        chained_unlinked bs ns ps o is n b (next_out ns ps n) (prev_out ns ps n) left right low was now (cut_whole n o n_placed)
+        chained_unlinked bs ns ps o is n b (next_out ns ps n) (prev_out ns ps n) (l n n_placed) (r n n_placed) low was now (cut_whole n o n_placed)
         (length-set ns (at ps n) (at ns n) ∙ w)
         (length-set ps (at ns n) (at ps n) ∙ v)
-        (unsplice (at ns) (at ps) (at (next_out ns ps n)) (at (prev_out ns ps n)) (at ps n) n (at ns n) s (length bs) left right (length bs) front_ring back_ring (λ e. omega arith) (omega arith) (omega arith) (λ e. omega arith))
+        (unsplice (at ns) (at ps) (at (next_out ns ps n)) (at (prev_out ns ps n)) (at ps n) n (at ns n) s (length bs) (l n n_placed) (r n n_placed) (length bs) (left_ring n n_placed) (right_ring n n_placed) (λ e. omega arith) (omega arith) (omega arith) (λ e. omega arith))

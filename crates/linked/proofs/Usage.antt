@@ -1,25 +1,25 @@
 -- The least use beyond a pair, as the links give it.
-use Rattle.std.proofs.Common.{◌≡◌, ℕ, zero, suc, ◌+◌, ◌*◌, ◌/◌, ◌%◌, ◌<◌, ◌≤◌, Bool, true, false, cond, ◌&&◌, ◌||◌, eqb, ltb, ◌⊎◌, List, [], ◌∷◌, ◌++◌, map, length, get_or, take, Some, None, Option, sym, refl, ap, ◌∙◌, ⊎_elim, arith}
-use Rattle.std.proofs.lemmas.List.{length-map}
-use Rattle.std.proofs.lemmas.Bool.{cases_eq, cases_lt, cases_order, eq-eqb, ne_eqb, lt-ltb, le-ltb}
-use Rattle.ir.specs.declared.operation.Op.{Op}
-use Rattle.ir.specs.declared.operation.Op.TheVariants.{Constant, Input, Add, Subtract, Multiply, And, Or, Xor, Less, Equal, Pick, Shift, Out}
+use Rattle.std.proofs.Common.{◌≡◌, ℕ, suc, ◌+◌, ◌*◌, ◌/◌, ◌%◌, ◌<◌, ◌≤◌, Bool, true, false, cond, ◌&&◌, ◌||◌, eqb, ltb, ◌⊎◌, List, [], ◌∷◌, ◌++◌, map, length, get_or, Some, None, Option, sym, refl, ap, ◌∙◌, ⊎_elim, arith}
+use Rattle.std.specs.Option.{option_eq}
+use Rattle.std.proofs.lemmas.List.{length-map, length-take}
+use Rattle.std.proofs.lemmas.Bool.{eqb-true, cases_eq, cases_lt, cases_order, eq-eqb, ne_eqb, lt-ltb, le-ltb}
 use Rattle.ir.specs.Operations.{arity}
 use Rattle.ir.specs.Instructions.{Instr}
 use Rattle.program.specs.Programs.{operands}
 use Rattle.program.specs.Uses.{uses_at, uses_by, uses_from, before, least_beyond}
 use Rattle.linked.specs.declared.cells.LinkedCell.{LinkedCell}
+use Rattle.linked.specs.declared.cells.Node.{Node}
 use Rattle.linked.specs.LinkedModel.{content, bodies}
 use Rattle.linked.specs.Rings.{occurs}
 use Rattle.linked.specs.Paths.{Path, Rising, Climbs, climbs_rest, low, low_in, rising_above}
-use Rattle.linked.specs.Uses.{spots, spots_climbs, Threaded, own_yes, node_low}
-use Rattle.linked.specs.Slots.{seat_of, place, links}
-use Rattle.linked.specs.Table.{table, code, table_uses, table_heads}
-use Rattle.linked.specs.Facts.{table_in}
-use Rattle.linked.specs.Reading.{decode, operand_at}
-use Rattle.linked.specs.declared.cells.Node.{Node}
-use Rattle.linked.proofs.Flats.{seat_low, place_number}
-use Rattle.linked.proofs.Makes.{row_a, row_b, row_c}
+use Rattle.linked.specs.Uses.{spots, spots_climbs, own_yes, node_low}
+use Rattle.linked.specs.Slots.{seat_of, place, links, entry}
+use Rattle.linked.specs.Table.{code, table_uses, table_heads}
+use Rattle.linked.specs.Facts.{table_in, Listed}
+use Rattle.linked.specs.Reading.{decode, slots_of}
+use Rattle.linked.specs.States.{content_at}
+use Rattle.linked.proofs.Placing.{body_read}
+use Rattle.linked.proofs.Rows.{row_entry}
 
 -- the first of a list that is not below x
 abbrev first_from : ℕ → List ℕ → ℕ
@@ -68,24 +68,12 @@ fine_at size v u k (x ∷ xs) h g l =
     let below = fine_at size v u (suc k) xs h (omega arith) (omega arith) in
     elim (eqb x v) as (λ b. Fine size (cond b ((u, k) ∷ uses_at v u (suc k) xs) (uses_at v u (suc k) xs))) [ true ↦ (h, g, omega arith, below) | false ↦ below ]
 
-few_operands : (op : Op) (a b c : ℕ) → 1 + length (take (arity op) (a ∷ (b ∷ (c ∷ [])))) ≤ 4
-few_operands Constant a b c = omega arith
-few_operands Input a b c = omega arith
-few_operands Add a b c = omega arith
-few_operands Subtract a b c = omega arith
-few_operands Multiply a b c = omega arith
-few_operands And a b c = omega arith
-few_operands Or a b c = omega arith
-few_operands Xor a b c = omega arith
-few_operands Less a b c = omega arith
-few_operands Equal a b c = omega arith
-few_operands Pick a b c = omega arith
-few_operands Shift a b c = omega arith
-few_operands Out a b c = omega arith
+few_operands : (i : Instr) → 1 + length (operands i) ≤ 4
+few_operands i = let l = length-take (arity i.op) (i.a ∷ (i.b ∷ (i.c ∷ []))) in omega arith
 
 fine_by : (size v u : ℕ) (c : Option Instr) → u < size → Fine size (uses_by v u c)
 fine_by size v u None h = tt
-fine_by size v u (Some i) h = fine_at size v u 1 (operands i) h (omega arith) (few_operands i.op i.a i.b i.c)
+fine_by size v u (Some i) h = fine_at size v u 1 (operands i) h (omega arith) (few_operands i)
 
 fine_from : (size v u : ℕ) (cs : List (Option Instr)) → u + length cs ≤ size → Fine size (uses_from v u cs)
 fine_from size v u [] h = tt
@@ -150,7 +138,7 @@ module _ (size : ℕ) (few : size ≤ 1024) where
       ap (λ b. cond b (Some y) (least_beyond (Some (u, p)) ys)) no ∙ first_none u p h ys f.3
 
 -- ---- of cells
-module _ (xs : List LinkedCell) (is : Threaded (length xs) (table_in xs) (links xs)) (v : ℕ) (h : v < length xs) where
+module _ (xs : List LinkedCell) (is : Listed xs) (v : ℕ) (h : v < length xs) where
   abbrev us : List (ℕ × ℕ)
   us = uses_from v 0 (map content (bodies xs))
 
@@ -182,19 +170,17 @@ module _ (xs : List LinkedCell) (is : Threaded (length xs) (table_in xs) (links 
   low_node x = node_low (length xs) (table_in xs) (links xs) is v (low x (4 * v) (spots v 0 (table_in xs))) h (low_in x (4 * v) (spots v 0 (table_in xs)))
 
 -- ---- the operand at a node
-table_at : (cs : List (Option Instr)) (u p : ℕ) → p < 4 → get_or (table cs) (4 * u + p) 4096 ≡ operand_at (get_or cs u None) p
-table_at cs u zero h = let z : 4 * u + 0 ≡ 4 * u = omega arith in ap (λ k. get_or (table cs) k 4096) z ∙ table_heads cs u
-table_at cs u (suc zero) h = row_a cs u
-table_at cs u (suc (suc zero)) h = row_b cs u
-table_at cs u (suc (suc (suc zero))) h = row_c cs u
-table_at cs u (suc (suc (suc (suc p)))) h = absurd (omega arith)
 
-content_cell : (xs : List LinkedCell) (u : ℕ) (x : LinkedCell) → u < length xs → x ≡ get_or xs u x → get_or (map content (bodies xs)) u None ≡ content x.body
-content_cell [] u x h e = absurd (omega arith)
-content_cell (y ∷ xs) zero x h e = ap (λ c. content c.body) (sym e)
-content_cell (y ∷ xs) (suc u) x h e = content_cell xs u x (omega arith) e
+pub operand_read : (xs : List LinkedCell) (x : Node) (d : LinkedCell) → x.number < length xs → (ops : List (Option ℕ)) → ops ≡ slots_of (content (get_or xs x.number d).body) → (k : ℕ) → k < 3 → seat_of x.seat ≡ suc k → entry (get_or ops k None) ≡ get_or (table_in xs) (place x) 4096
+operand_read xs x d h ops are k l e =
+    ap (λ os. entry (get_or os k None)) (are ∙ ap (λ b. slots_of (content b)) (body_read xs x.number d h))
+    ∙ sym (row_entry (map content (bodies xs)) x.number k l ∙ ap (λ c. entry (get_or (slots_of c) k None)) (content_at (bodies xs) x.number))
+    ∙ ap (λ p. get_or (table_in xs) (4 * x.number + p) 4096) (sym e)
 
-pub operand_read : (xs : List LinkedCell) (k : Node) (x : LinkedCell) → place k < 4 * length xs → x ≡ get_or xs k.number x → operand_at (content x.body) (seat_of k.seat) ≡ get_or (table_in xs) (place k) 4096
-operand_read xs k x h e =
-    ap (λ c. operand_at c (seat_of k.seat)) (sym (content_cell xs k.number x (place_number k (length xs) h) e))
-    ∙ sym (table_at (map content (bodies xs)) k.number (seat_of k.seat) (seat_low k.seat))
+pub head_read : (xs : List LinkedCell) (x : Node) → seat_of x.seat ≡ 0 → 4096 ≡ get_or (table_in xs) (place x) 4096
+head_read xs x e = let z : place x ≡ 4 * x.number = omega arith in sym (ap (λ k. get_or (table_in xs) k 4096) z ∙ table_heads (map content (bodies xs)) x.number)
+
+-- an operand that is v
+pub same_entry : (o : Option ℕ) (v : ℕ) → option_eq eqb o (Some v) ≡ true → entry o ≡ v
+same_entry None v e = let z : ◌≡◌ {A = ℕ} 0 1 = cc in absurd (omega arith)
+same_entry (Some u) v e = eqb-true u v e

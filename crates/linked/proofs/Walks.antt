@@ -1,6 +1,6 @@
 -- A walk along a use list.
 use Rattle.std.proofs.Common.{◌≡◌, ℕ, ◌*◌, ◌<◌, ◌≤◌, true, cond, ltb, List, [], ◌∷◌, get_or, sym, refl, ap, ◌∙◌, subst, arith}
-use Rattle.std.proofs.lemmas.Bool.{lt-ltb, le-ltb}
+use Rattle.std.proofs.lemmas.Bool.{lt-ltb}
 use Rattle.linked.specs.Paths.{Path, Rising, Climbs, climbs_rest, low}
 use Rattle.linked.specs.Uses.{spots, spots_climbs, Threaded}
 
@@ -21,31 +21,30 @@ walk_start size qs ls is v x next h e = record {
   link = e;
 }
 
+-- one step along a list: the next node is its first, and what follows it is further on
+pub onward : (ls : List ℕ) (w next then z : ℕ) (zs : List ℕ) → Path (λ k. get_or ls k 0) w (z ∷ zs) → Climbs (z ∷ zs) → next ≡ get_or ls w 0 → next < 4096 → then ≡ get_or ls next 0 → (next ≡ z) × Path (λ k. get_or ls k 0) next zs × (next < then)
+onward ls w next then z zs p c l less e =
+    let is : next ≡ z = l ∙ p.0 in
+    let on : Path (λ k. get_or ls k 0) next zs = subst (λ n. Path (λ k. get_or ls k 0) n zs) (sym is) p.1 in
+    let up : (rest : List ℕ) → Path (λ k. get_or ls k 0) next rest → Rising z rest → next < then
+    = elim [ [] ↦ (λ q r. omega arith) | a ∷ rest ↦ (λ q r. let f = q.0 in let g = r.0 in omega arith) ]
+    in (is, on, up zs on c)
+
 module _ (ls : List ℕ) (h : ℕ) (ys : List ℕ) (x : ℕ) (fits : x ≤ 4096) where
   step : (zs : List ℕ) (w next then : ℕ) → Path (λ k. get_or ls k 0) w zs → Climbs zs → low x w zs ≡ low x h ys → next ≡ get_or ls w 0 → next < x → then ≡ get_or ls next 0 → Walk ls h ys x next then × (next < then)
   step [] w next then p c s l less e = absurd (omega arith)
   step (z ∷ zs) w next then p c s l less e =
-      let is : next ≡ z = l ∙ p.0 in
-      let t : ltb z x ≡ true = lt-ltb z x (omega arith) in
-      let on : Path (λ k. get_or ls k 0) next zs = subst (λ n. Path (λ k. get_or ls k 0) n zs) (sym is) p.1 in
-      let up : (rest : List ℕ) → Path (λ k. get_or ls k 0) next rest → Rising z rest → next < then
-      = elim [ [] ↦ (λ q r. omega arith) | a ∷ rest ↦ (λ q r. let f = q.0 in let g = r.0 in omega arith) ] in (
+      let on = onward ls w next then z zs p c l (omega arith) e in
+      let t : ltb z x ≡ true = let is = on.0 in lt-ltb z x (omega arith) in (
         record {
           zs = zs;
-          path = on;
+          path = on.1;
           climbs = climbs_rest z zs c;
-          same = ap (λ n. low x n zs) is ∙ sym (ap (λ b. cond b (low x z zs) w) t) ∙ s;
+          same = ap (λ n. low x n zs) on.0 ∙ sym (ap (λ b. cond b (low x z zs) w) t) ∙ s;
           link = e;
         },
-        up zs on c,
+        on.2,
       )
 
   pub walk_more : (w next then : ℕ) → Walk ls h ys x w next → next < x → then ≡ get_or ls next 0 → Walk ls h ys x next then × (next < then)
   walk_more w next then k less e = step k.zs w next then k.path k.climbs k.same k.link less e
-
-  end : (zs : List ℕ) (w next : ℕ) → Path (λ k. get_or ls k 0) w zs → next ≡ get_or ls w 0 → x ≤ next → low x w zs ≡ w
-  end [] w next p l more = refl
-  end (z ∷ zs) w next p l more = let e = p.0 in ap (λ b. cond b (low x z zs) w) (le-ltb z x (omega arith))
-
-  pub walk_all : (w next : ℕ) → Walk ls h ys x w next → x ≤ next → w ≡ low x h ys
-  walk_all w next k more = sym (end k.zs w next k.path k.link more) ∙ k.same

@@ -1,16 +1,16 @@
 -- What a linked store keeps, as equations of numbers and lists of numbers.
-use Rattle.std.specs.Prelude.{◌≡◌, ℕ, zero, suc, ◌+◌, ◌*◌, ◌<◌, ◌≤◌, true, List, [], ◌∷◌, ◌++◌, map, length, None, slice_index_or, refl}
+use Rattle.std.specs.Prelude.{◌≡◌, ℕ, zero, suc, ◌+◌, ◌*◌, ◌<◌, ◌≤◌, List, [], ◌∷◌, ◌++◌, map, length, None, slice_index_or, refl}
 use Rattle.std.proofs.Common.{sym, ap, ◌∙◌, arith}
-use Rattle.std.proofs.lemmas.List.{length-map}
+use Rattle.std.proofs.lemmas.List.{length-map, length-append}
 use Rattle.linked.specs.declared.cells.LinkedCell.{LinkedCell}
 use Rattle.linked.specs.declared.cells.Threads.{Threads}
 use Rattle.linked.specs.declared.cells.Body.TheVariants.{Vacant}
 use Rattle.linked.specs.Rings.{occurs, trail, Ring}
 use Rattle.linked.specs.Paths.{Path}
-use Rattle.linked.specs.Uses.{spots, Threaded}
-use Rattle.linked.specs.Slots.{flat, links}
+use Rattle.linked.specs.Uses.{spots}
+use Rattle.linked.specs.Slots.{flat, links, Lists}
 use Rattle.linked.specs.Table.{table, table_length, table_heads}
-use Rattle.linked.specs.Making.{ranged}
+use Rattle.linked.specs.Making.{Inside}
 use Rattle.linked.specs.LinkedModel.{content, mark, bodies, nexts, prevs, threads_of, at, placed_count, order_of, Linked}
 
 -- the order that the links go through
@@ -37,9 +37,13 @@ Marked cells first = (n : ℕ) → mark (slice_index_or (bodies cells) n Vacant)
 abbrev pub Strung : List LinkedCell → Type 0
 Strung cells = (v : ℕ) → v < length cells → map (at (links cells)) (4 * v ∷ spots v 0 (table_in cells)) ≡ spots v 0 (table_in cells) ++ (4096 ∷ [])
 
+-- the use lists go along the uses of the cells' own operands
+abbrev pub Listed : List LinkedCell → Type 0
+Listed cells = Lists cells (table_in cells)
+
 -- each operand is a number of the store
 abbrev pub Ranged : List LinkedCell → Type 0
-Ranged cells = (n : ℕ) → ranged (length cells) (slice_index_or (map content (bodies cells)) n None) ≡ true
+Ranged cells = (n : ℕ) → Inside (length cells) (slice_index_or (map content (bodies cells)) n None)
 
 -- ---- the same as relations
 
@@ -76,8 +80,7 @@ trail_length s zero a = refl
 trail_length s (suc k) a = ap suc (trail_length s k (s a))
 
 pub col_length : {X : Type 0} (f : X → ℕ) (xs : List X) (e : ℕ) → length (map f xs ++ (e ∷ [])) ≡ length xs + 1
-col_length f [] e = refl
-col_length f (x ∷ xs) e = let q = col_length f xs e in omega arith
+col_length f xs e = length-append (map f xs) (e ∷ []) ∙ ap (λ k. k + 1) (length-map xs f)
 
 flat_length : (ts : List Threads) → length (flat ts) ≡ 4 * length ts
 flat_length [] = refl
@@ -88,8 +91,8 @@ linked_from cells first last fw bw mk =
     let many = length-map cells (λ c. c.body) in
     let o = order_in cells first in
     record {
-      wide = col_length (λ c. c.next) cells first ∙ ap (λ k. k + 1) (sym many);
-      wide_back = col_length (λ c. c.prev) cells last ∙ ap (λ k. k + 1) (sym many);
+      wide = col_length (λ c. c.links.next) cells first ∙ ap (λ k. k + 1) (sym many);
+      wide_back = col_length (λ c. c.links.prev) cells last ∙ ap (λ k. k + 1) (sym many);
       ring = ring_from (at (nexts cells first)) (at (prevs cells last)) (length (bodies cells)) o (length (bodies cells))
           (ap (λ s. map (at (nexts cells first)) (s ∷ o)) many ∙ fw ∙ ap (λ s. o ++ (s ∷ [])) (sym many))
           (ap (λ s. map (at (prevs cells last)) (o ++ (s ∷ []))) many ∙ bw ∙ ap (λ s. s ∷ o) (sym many));
@@ -109,7 +112,7 @@ backward_of cells first last is =
     let o = order_in cells first in
     ap (λ s. map (at (prevs cells last)) (o ++ (s ∷ []))) (sym many) ∙ ring_backward (at (nexts cells first)) (at (prevs cells last)) (length (bodies cells)) o (length (bodies cells)) is.ring ∙ ap (λ s. s ∷ o) many
 
-pub threaded_from : (cells : List LinkedCell) → length cells ≤ 1024 → Strung cells → Threaded (length cells) (table_in cells) (links cells)
+pub threaded_from : (cells : List LinkedCell) → length cells ≤ 1024 → Strung cells → Listed cells
 threaded_from cells few st =
     let many = length-map cells (λ c. c.body) in
     let more = length-map (bodies cells) content in
@@ -124,5 +127,5 @@ threaded_from cells few st =
       paths = λ v h. path_from (at (links cells)) (4 * v) (spots v 0 (table_in cells)) (st v h);
     }
 
-pub strung_of : (cells : List LinkedCell) → Threaded (length cells) (table_in cells) (links cells) → Strung cells
+pub strung_of : (cells : List LinkedCell) → Listed cells → Strung cells
 strung_of cells is v h = path_to (at (links cells)) (4 * v) (spots v 0 (table_in cells)) (is.paths v h)

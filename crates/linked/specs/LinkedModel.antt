@@ -1,5 +1,5 @@
 -- What the cells of the linked store stand for.
-use Rattle.std.specs.Prelude.{◌≡◌, ℕ, ◌+◌, ◌⊎◌, List, [], ◌∷◌, ◌++◌, map, length, Some, None, Option, slice_index, slice_index_or}
+use Rattle.std.specs.Prelude.{◌≡◌, ℕ, ◌+◌, ◌⊎◌, List, [], ◌∷◌, ◌++◌, map, length, Some, None, Option, slice_index, slice_index_or, slice_set}
 use Rattle.ir.specs.Instructions.{Instr, plain}
 use Rattle.program.specs.declared.state.State.{State}
 use Rattle.program.specs.declared.state.State.TheVariants.{Free, Loose, Placed as IsPlaced}
@@ -38,11 +38,11 @@ threads_of cells = map (λ c. c.threads) cells
 
 -- for each number the next of the order; last stands the store's size, whose next is the first
 abbrev pub nexts : List LinkedCell → ℕ → List ℕ
-nexts cells first = map (λ c. c.next) cells ++ (first ∷ [])
+nexts cells first = map (λ c. c.links.next) cells ++ (first ∷ [])
 
 -- for each number the one before it in the order; before the store's size is the last
 abbrev pub prevs : List LinkedCell → ℕ → List ℕ
-prevs cells last = map (λ c. c.prev) cells ++ (last ∷ [])
+prevs cells last = map (λ c. c.links.prev) cells ++ (last ∷ [])
 
 -- the link of a node
 abbrev pub at : List ℕ → ℕ → ℕ
@@ -64,6 +64,32 @@ program_by bs ns = record { cells = map content bs; order = order_of bs ns }
 -- the program that the cells stand for
 abbrev pub linked_program : List LinkedCell → ℕ → Program
 linked_program cells first = program_by (bodies cells) (nexts cells first)
+
+-- the links of the order are as they were
+pub record SameOrder (old new : List LinkedCell) : Type 0 where
+  pub nexts : (first : ℕ) → nexts new first ≡ nexts old first
+  pub prevs : (last : ℕ) → prevs new last ≡ prevs old last
+
+-- nothing but the links of the order has changed
+pub record OnlyLinks (old new : List LinkedCell) : Type 0 where
+  pub bodies : bodies new ≡ bodies old
+  pub threads : threads_of new ≡ threads_of old
+
+-- the next links after n went between t and the node before t
+abbrev pub next_in : List ℕ → List ℕ → ℕ → ℕ → List ℕ
+next_in ns ps n t = slice_set (slice_set ns (at ps t) n) n t
+
+-- the links to the one before, after n went between t and the node before t
+abbrev pub prev_in : List ℕ → ℕ → ℕ → List ℕ
+prev_in ps n t = slice_set (slice_set ps n (at ps t)) t n
+
+-- the next links after n went out from between the nodes beside it
+abbrev pub next_out : List ℕ → List ℕ → ℕ → List ℕ
+next_out ns ps n = slice_set ns (at ps n) (at ns n)
+
+-- the links to the one before, after n went out from between the nodes beside it
+abbrev pub prev_out : List ℕ → List ℕ → ℕ → List ℕ
+prev_out ns ps n = slice_set ps (at ns n) (at ps n)
 
 -- an order that the links go through both ways
 pub record Chained (bs : List Body) (ns ps : List ℕ) (o : List ℕ) : Type 0 where

@@ -1,11 +1,12 @@
 -- The links of the use lists as one list of numbers: at 4 * n the head of n's list, at 4 * n + p what follows n's use at position p.
-use Rattle.std.specs.Prelude.{◌≡◌, ℕ, ◌+◌, ◌*◌, ◌<◌, Bool, true, cond, List, [], ◌∷◌, length, ◌≢◌, slice_index_or}
+use Rattle.std.specs.Prelude.{◌≡◌, ℕ, ◌+◌, ◌*◌, ◌<◌, List, [], ◌∷◌, length, Some, None, Option, ◌≢◌, slice_index_or}
 use Rattle.linked.specs.declared.cells.LinkedCell.{LinkedCell}
+use Rattle.linked.specs.declared.cells.Body.TheVariants.{Vacant}
 use Rattle.linked.specs.declared.cells.Node.{Node}
 use Rattle.linked.specs.declared.cells.Seat.{Seat}
 use Rattle.linked.specs.declared.cells.Seat.TheVariants.{Head, A as AtA, B as AtB, C as AtC}
 use Rattle.linked.specs.declared.cells.Threads.{Threads}
-use Rattle.linked.specs.LinkedModel.{threads_of}
+use Rattle.linked.specs.LinkedModel.{threads_of, bodies, SameOrder}
 use Rattle.linked.specs.Uses.{Threaded}
 
 -- 0 for the head, and the operand's position from 1
@@ -26,6 +27,10 @@ place x = 4 * x.number + seat_of x.seat
 -- what follows the last use of a list
 abbrev pub no_use : Node
 no_use = record { number = 1024; seat = Head }
+
+-- a cell of a new store
+abbrev pub blank_cell : LinkedCell
+blank_cell = record { body = Vacant; links = record { next = 0; prev = 0 }; threads = record { head = no_use; a = no_use; b = no_use; c = no_use } }
 
 -- the link at a seat
 abbrev pub slot_of : Threads → Seat → Node
@@ -50,13 +55,27 @@ flat (t ∷ ts) = place t.head ∷ (place t.a ∷ (place t.b ∷ (place t.c ∷ 
 abbrev pub links : List LinkedCell → List ℕ
 links cells = flat (threads_of cells)
 
+-- the operand of a place in a table of operands, 4096 for none
+abbrev pub entry : Option ℕ → ℕ
+entry None = 4096
+entry (Some v) = v
+
+-- the use lists of the cells thread the uses of a table
+abbrev pub Lists : List LinkedCell → List ℕ → Type 0
+Lists cells qs = Threaded (length cells) qs (links cells)
+
 -- the links thread the uses of some table
 abbrev pub Woven : List LinkedCell → Type 0
-Woven cells = (qs : List ℕ) × Threaded (length cells) qs (links cells)
+Woven cells = (qs : List ℕ) × Lists cells qs
+
+-- nothing but the links of the use lists has changed
+pub record OnlyThreads (old new : List LinkedCell) : Type 0 where
+  pub order : SameOrder old new
+  pub bodies : bodies new ≡ bodies old
 
 -- the use of v at x is in no list yet
 pub record Open (cells : List LinkedCell) (qs : List ℕ) (v x : ℕ) : Type 0 where
-  pub woven : Threaded (length cells) qs (links cells)
+  pub lists : Lists cells qs
   pub value : v < length cells
   pub within : x < 4 * length cells
   pub plain : (u : ℕ) → x ≢ 4 * u
@@ -64,20 +83,15 @@ pub record Open (cells : List LinkedCell) (qs : List ℕ) (v x : ℕ) : Type 0 w
 
 -- the use of v at x is in v's list
 pub record Held (cells : List LinkedCell) (qs : List ℕ) (v x : ℕ) : Type 0 where
-  pub woven : Threaded (length cells) qs (links cells)
+  pub lists : Lists cells qs
   pub value : v < length cells
   pub used : slice_index_or qs x 4096 ≡ v
 
--- the use of v at x, where the operand is present, is in no list yet
-pub record OpenIf (cells : List LinkedCell) (qs : List ℕ) (present : Bool) (v x : ℕ) : Type 0 where
-  pub woven : Threaded (length cells) qs (links cells)
-  pub value : present ≡ true → v < length cells
+-- the operand at x is `old`, and `new` may stand there
+pub record Changing (cells : List LinkedCell) (qs : List ℕ) (x : ℕ) (old new : Option ℕ) : Type 0 where
+  pub lists : Lists cells qs
   pub within : x < 4 * length cells
   pub plain : (u : ℕ) → x ≢ 4 * u
-  pub free : slice_index_or qs x 4096 ≡ 4096
-
--- the use of v at x, where the operand is present, is in v's list
-pub record HeldIf (cells : List LinkedCell) (qs : List ℕ) (present : Bool) (v x : ℕ) : Type 0 where
-  pub woven : Threaded (length cells) qs (links cells)
-  pub value : present ≡ true → v < length cells
-  pub used : slice_index_or qs x 4096 ≡ cond present v 4096
+  pub used : slice_index_or qs x 4096 ≡ entry old
+  pub was : (v : ℕ) → old ≡ Some v → v < length cells
+  pub value : (v : ℕ) → new ≡ Some v → v < length cells

@@ -1,7 +1,8 @@
 -- What the cells say of the states of the numbers, and that their program is proper; the ghost member `proper` may cite specs alone.
-use Rattle.std.specs.Prelude.{◌≡◌, ℕ, zero, suc, ◌+◌, ◌<◌, ◌≤◌, Bool, true, false, cond, ltb, List, [], ◌∷◌, map, length, None, ◌==◌, nat_lt, slice_index_or, refl}
+use Rattle.std.specs.Prelude.{◌≡◌, ℕ, suc, ◌+◌, ◌<◌, ◌≤◌, Bool, true, false, cond, ltb, List, [], ◌∷◌, map, length, None, ◌==◌, nat_lt, slice_index_or, refl}
 use Rattle.std.proofs.Common.{sym, ap, ◌∙◌, subst, ⊎_elim, arith}
 use Rattle.std.proofs.lemmas.List.{length-map}
+use Rattle.std.proofs.Math.ListN.{get_or-map}
 use Rattle.std.proofs.lemmas.Bool.{lt-ltb, le-ltb, eq-eqb, ne_eqb}
 use Rattle.program.specs.declared.state.State.TheVariants.{Loose, Placed as IsPlaced}
 use Rattle.ir.specs.Instructions.{Shapely}
@@ -31,9 +32,7 @@ pub within_linked : (xs : List LinkedCell) (f n : ℕ) → within (linked_progra
 within_linked xs f n = ap (ltb n) (length-map (bodies xs) content ∙ length-map xs (λ c. c.body))
 
 pub content_at : (bs : List Body) (n : ℕ) → slice_index_or (map content bs) n None ≡ content (slice_index_or bs n Vacant)
-content_at [] n = refl
-content_at (b ∷ bs) zero = refl
-content_at (b ∷ bs) (suc n) = content_at bs n
+content_at bs n = get_or-map content bs n Vacant
 
 pub cell_linked : (xs : List LinkedCell) (f n : ℕ) → cell (linked_program xs f) n ≡ content (slice_index_or (bodies xs) n Vacant)
 cell_linked xs f n = content_at (bodies xs) n

@@ -2,12 +2,9 @@
 #![tactic(auto)]
 
 pub mod cells;
-mod commands;
-mod faults;
 pub mod linked;
 mod lookup;
 mod order;
-mod readings;
 mod records;
 mod threads;
 mod uses;

@@ -1,45 +1,29 @@
 // What the cells say of one number.
-ghost use Rattle.std.specs.Prelude.{◌≡◌, slice_index_or};
-ghost use Rattle.program.specs.Known.{Right};
+ghost use Rattle.std.specs.Prelude.{◌≡◌, length, Some, None, if◌then◌else◌, nat_lt, slice_index_or};
 ghost use Rattle.linked.specs.declared.cells.Body.TheVariants.{Vacant};
-ghost use Rattle.linked.specs.LinkedModel.{bodies, tag, linked_program};
-ghost use Rattle.linked.specs.Sound.{Sound};
+ghost use Rattle.linked.specs.LinkedModel.{bodies, tag};
+ghost use Rattle.linked.specs.Reading.{node_number};
 
-use crate::cells::{Body, Ends, LinkedCell};
-use program::checks::Known;
+use crate::cells::{Body, LinkedCell};
 use program::state::State;
 
 // The body of a number; past the end, as if it were free.
 pub(crate) fn body_at(cells: &[LinkedCell], n: u32) -> Body
     ensures { result ≡ slice_index_or (bodies cells.now) n Vacant }
 {
-    if (n as usize) < cells.len() {
-        let cell = cells[n as usize];
-        cell.body
-    } else {
-        Body::Vacant
-    }
+    cells.get(n as usize).map_or(Body::Vacant, |cell| cell.body)
 }
 
-fn state_of(body: Body) -> State
-    ensures { result ≡ tag body }
+// The state of a number, where there is one.
+pub(crate) fn state_at(cells: &[LinkedCell], n: u32) -> Option<State>
+    ensures { result ≡ if nat_lt n (length cells.now) then Some (tag (slice_index_or (bodies cells.now) n Vacant)) else None }
 {
-    match body {
-        Body::Vacant => State::Free,
-        Body::Idle(_) => State::Loose,
-        Body::Placed(_) => State::Placed,
-    }
+    cells.get(n as usize).map(|cell| cell.body.state())
 }
 
-// The number with its state, for the checks.
-pub(crate) fn look(cells: &[LinkedCell], ends: Ends, n: u32) -> Known
-    requires { Sound cells.now ends.first ends.last }
-    ensures { Right (linked_program cells.now ends.first) n result }
+// A node of the order as a number; none for the store's size, which stands for both ends.
+pub(crate) fn number_of(cells: &[LinkedCell], node: u32) -> Option<u32>
+    ensures { result ≡ node_number (length cells.now) node }
 {
-    let body = body_at(cells, n);
-    Known {
-        number: n,
-        inside: (n as usize) < cells.len(),
-        state: state_of(body),
-    }
+    ((node as usize) < cells.len()).then_some(node)
 }

@@ -1,57 +1,38 @@
 // Readings of the use lists.
-ghost use Rattle.std.specs.Prelude.{◌≡◌, ◌+◌, ◌*◌, ◌<◌, map, length, Some, None, slice_index, slice_index_or};
-ghost use Rattle.ir.specs.Instructions.{plain};
+ghost use Rattle.std.specs.Prelude.{◌≡◌, ◌+◌, ◌*◌, ◌<◌, map, length, slice_index, slice_index_or};
 ghost use Rattle.program.specs.Uses.{uses_from, unused, least_beyond};
 ghost use Rattle.linked.specs.LinkedModel.{content, bodies};
 ghost use Rattle.linked.specs.Paths.{low};
-ghost use Rattle.linked.specs.Uses.{spots, Threaded};
-ghost use Rattle.linked.specs.Slots.{seat_of, place, links};
-ghost use Rattle.linked.specs.Facts.{table_in};
-ghost use Rattle.linked.specs.Reading.{decode, operand_at, Cut};
+ghost use Rattle.linked.specs.Uses.{spots};
+ghost use Rattle.linked.specs.Slots.{seat_of, place, links, entry};
+ghost use Rattle.linked.specs.Facts.{table_in, Listed};
+ghost use Rattle.linked.specs.Reading.{decode, Cut};
 
-use crate::cells::{Body, LinkedCell, MOST_NUMBERS, NO_VALUE, Node, Seat};
+use crate::cells::{LinkedCell, MOST_NUMBERS, Node, Seat};
 use crate::threads;
-use ir::instruction::Record;
 
-fn operand_in(what: Record, seat: Seat) -> u32
-    ensures { result ≡ operand_at (Some (plain what)) (seat_of seat) }
+// The value read at a node.
+fn read_at(cells: &[LinkedCell], node: Node) -> Option<u32>
+    requires { node.number < length cells.now }
+    ensures { entry result ≡ slice_index_or (table_in cells.now) (place node) 4096 }
 {
-    let k = what.op.operands();
-    match seat {
-        Seat::Head => NO_VALUE,
-        Seat::A => if 0 < k { what.a } else { NO_VALUE },
-        Seat::B => if 1 < k { what.b } else { NO_VALUE },
-        Seat::C => if 2 < k { what.c } else { NO_VALUE },
+    let [a, b, c] = cells[node.number as usize].body.operands();
+    match node.seat {
+        Seat::Head => None,
+        Seat::A => a,
+        Seat::B => b,
+        Seat::C => c,
     }
-}
-
-fn operand_of(body: Body, seat: Seat) -> u32
-    ensures { result ≡ operand_at (content body) (seat_of seat) }
-{
-    match body {
-        Body::Vacant => NO_VALUE,
-        Body::Idle(what) => operand_in(what, seat),
-        Body::Placed(what) => operand_in(what, seat),
-    }
-}
-
-// The value read at a node, or NO_VALUE.
-fn read_at(cells: &[LinkedCell], node: Node) -> u32
-    requires { place node < 4 * length cells.now }
-    ensures { result ≡ slice_index_or (table_in cells.now) (place node) 4096 }
-{
-    let cell = cells[node.number as usize];
-    operand_of(cell.body, node.seat)
 }
 
 // The use that follows a node.
 fn use_after(cells: &[LinkedCell], node: Node) -> Option<(u32, u8)>
-    requires { place node < 4 * length cells.now }
+    requires { node.number < length cells.now }
     ensures { result ≡ decode (slice_index (links cells.now) (place node)) }
 {
     let next = threads::slot(cells, node);
     if next.number < MOST_NUMBERS {
-        Some((next.number, threads::position_of(next.seat)))
+        Some((next.number, next.seat.position()))
     } else {
         None
     }
@@ -66,18 +47,18 @@ fn behind(x: Node) -> Node
         Seat::Head => Node { seat: Seat::A, ..x },
         Seat::A => Node { seat: Seat::B, ..x },
         Seat::B => Node { seat: Seat::C, ..x },
-        Seat::C => threads::head_of(x.number + 1),
+        Seat::C => Node::head(x.number + 1),
     }
 }
 
 // The node of v's list that the uses beyond x follow.
 fn node_at(cells: &[LinkedCell], v: u32, x: Node) -> Node
-    requires woven { Threaded (length cells.now) (table_in cells.now) (links cells.now) }
+    requires listed { Listed cells.now }
     requires v { v < length cells.now }
-    requires x { place x < 4 * length cells.now }
+    requires x { x.number < length cells.now }
     ensures { place result ≡ low (place x + 1) (4 * v) (spots v 0 (table_in cells.now)) }
 {
-    if read_at(cells, x) == v {
+    if read_at(cells, x) == Some(v) {
         return x;
     }
     threads::node_before(cells, v, behind(x))
@@ -97,12 +78,12 @@ fn seat_at(position: u8) -> Seat
 
 // The least use of v beyond a pair, or the least of all. It takes one step where the pair is a use of v.
 pub(crate) fn next_use(cells: &[LinkedCell], v: u32, after: Option<(u32, u8)>) -> Option<(u32, u8)>
-    requires woven { Threaded (length cells.now) (table_in cells.now) (links cells.now) }
+    requires listed { Listed cells.now }
     requires v { v < length cells.now }
     ensures { result ≡ least_beyond after (uses_from v 0 (map content (bodies cells.now))) }
 {
     match after {
-        None => use_after(cells, threads::head_of(v)),
+        None => use_after(cells, Node::head(v)),
         Some((user, position)) => {
             if (user as usize) >= cells.len() {
                 return None;
@@ -116,24 +97,21 @@ pub(crate) fn next_use(cells: &[LinkedCell], v: u32, after: Option<(u32, u8)>) -
 
 // Whether nothing reads a number.
 pub(crate) fn is_unused(cells: &[LinkedCell], n: u32) -> bool
-    requires woven { Threaded (length cells.now) (table_in cells.now) (links cells.now) }
+    requires listed { Listed cells.now }
     requires within { n < length cells.now }
     ensures { result ≡ unused (uses_from n 0 (map content (bodies cells.now))) }
 {
-    match next_use(cells, n, None) {
-        Some(_) => false,
-        None => true,
-    }
+    next_use(cells, n, None).is_none()
 }
 
 // How many uses v has, by a walk of its list.
 pub(crate) fn count_all(cells: &[LinkedCell], v: u32) -> u32
-    requires woven { Threaded (length cells.now) (table_in cells.now) (links cells.now) }
+    requires listed { Listed cells.now }
     requires v { v < length cells.now }
     ensures { result ≡ length (uses_from v 0 (map content (bodies cells.now))) }
 {
     let mut count: u32 = 0;
-    let mut next = threads::slot(cells, threads::head_of(v));
+    let mut next = threads::slot(cells, Node::head(v));
     while next.number < MOST_NUMBERS {
         count += 1;
         next = threads::slot(cells, next);

@@ -6,3 +6,5 @@ pub mod Accepting
 pub mod Keeping
 pub mod Readings
 pub mod Orders
+pub mod Positions
+pub mod Unused

@@ -1,27 +1,30 @@
 -- What an answer of a reading says, accepted or refused.
-use Rattle.std.proofs.Common.{◌≡◌, ℕ, ◌+◌, Bool, true, false, length, Some, None, Ok, Err, Option, sym, refl, ap, ⊎_elim, arith}
+use Rattle.std.proofs.Common.{◌≡◌, ℕ, ◌+◌, true, List, [], ◌∷◌, length, Some, None, Ok, Err, Option, Result, sym, refl, ap, ◌∙◌, ⊎_elim, arith}
 use Rattle.std.proofs.lemmas.Option.{slice_get_past}
-use Rattle.std.proofs.lemmas.List.{get_or_past}
-use Rattle.std.proofs.lemmas.Bool.{ltb-false, cases_lt}
-use Rattle.ir.specs.Instructions.{constant_of}
+use Rattle.std.proofs.lemmas.Bool.{cases_lt}
+use Rattle.std.specs.Result.{result_unwrap_or, result_map_both}
+use Rattle.ir.specs.declared.instruction.Record.{Record}
+use Rattle.ir.specs.Instructions.{plain, constant_of}
 use Rattle.program.specs.declared.fault.StoreFault.{StoreFault}
-use Rattle.program.specs.declared.fault.StoreFault.TheVariants.{OutOfRange}
-use Rattle.program.specs.declared.state.State.{State}
-use Rattle.program.specs.declared.state.State.TheVariants.{Free}
-use Rattle.program.specs.Programs.{Program, Cell, size, cell, busy, Busy, held, at, index_of, has, within, state_by, state_of}
-use Rattle.program.specs.Faults.{unless, range_fault, placed_fault, busy_fault}
-use Rattle.program.specs.Readings.{answered, state_answer, next_of}
+use Rattle.program.specs.Programs.{Program, Cell, cell, busy, held, at, index_of}
+use Rattle.program.specs.Faults.{placed_fault, busy_fault}
+use Rattle.program.specs.Readings.{answered, next_of}
+use Rattle.program.specs.Uses.{uses, unused}
 use Rattle.program.specs.Proper.{Proper}
+use Rattle.program.proofs.Unused.{free_unused}
 use Rattle.program.proofs.Places.{index_in}
 use Rattle.program.proofs.Accepting.{commands_accepted, busy_accepted}
 
-pub ok_value : {A : Type 0} (f : Option StoreFault) (x y : A) → Ok x ≡ answered f y → x ≡ y
-ok_value None x y e = cc
-ok_value (Some g) x y e = let z : ◌≡◌ {A = ℕ} 0 1 = cc in absurd (omega arith)
+-- a reading that falls back on a value which is right where it is refused
+pub read_or : {A : Type 0} (f : Option StoreFault) (x d : A) (r : Result A StoreFault) → r ≡ answered f x → ((f ≡ None → ⊥) → d ≡ x) → result_unwrap_or r d ≡ x
+read_or None x d r e h = ap (λ s. result_unwrap_or s d) e
+read_or (Some g) x d r e h =
+    ap (λ s. result_unwrap_or s d) e ∙ h (λ n. let z : ◌≡◌ {A = ℕ} 0 1 = cc in omega arith)
 
-pub err_fault : {A : Type 0} (f : Option StoreFault) (g : StoreFault) (y : A) → Err g ≡ answered f y → f ≡ None → ⊥
-err_fault None g y e n = let z : ◌≡◌ {A = ℕ} 0 1 = cc in omega arith
-err_fault (Some h) g y e n = let z : ◌≡◌ {A = ℕ} 0 1 = cc in omega arith
+-- the same, of a record
+pub plain_or : (r : Result Record StoreFault) (d : Record) → plain (result_unwrap_or r d) ≡ result_unwrap_or (result_map_both plain (λ f. f) r) (plain d)
+plain_or (Ok x) d = refl
+plain_or (Err f) d = refl
 
 -- a number that cannot be read counts as the constant 0
 pub unread_zero : (p : Program) (n : ℕ) → (busy_fault p n ≡ None → ⊥) → constant_of 0 ≡ at p n
@@ -41,26 +44,10 @@ unplaced_none p t n f =
     (λ h. sym (slice_get_past p.order (index_of n p.order + 1) (omega arith)))
     (cases_lt (index_of n p.order) (length p.order))
 
--- what the state reading tells of a number
-pub seen_inside : (p : Program) (n : ℕ) (s : State) → Ok s ≡ state_answer p n → (true ≡ within p n) × (s ≡ state_of p n)
-seen_inside p n s e = (sym (by_test (within p n) e), ok_value (range_fault p n) s (state_of p n) e)
+-- nothing reads a number that is refused as free
+pub unread_unused : (p : Program) → Proper p → (n : ℕ) → (busy_fault p n ≡ None → ⊥) → [] ≡ uses p n
+unread_unused p t n f = by_uses (uses p n) (free_unused p t n (λ b. f (busy_accepted p n b)))
   where
-    by_test : (b : Bool) → Ok s ≡ answered (unless b (OutOfRange n)) (state_of p n) → b ≡ true
-    by_test true f = refl
-    by_test false f = let z : ◌≡◌ {A = ℕ} 0 1 = cc in absurd (omega arith)
-
-pub seen_outside : (p : Program) (n : ℕ) (f : StoreFault) → Err f ≡ state_answer p n → (false ≡ within p n) × (Free ≡ state_of p n)
-seen_outside p n f e =
-    let out : within p n ≡ false = by_test (within p n) e in
-    (sym out, sym (ap (λ c. state_by c (has n p.order)) (get_or_past p.cells n None (ltb-false n (size p) out))))
-  where
-    by_test : (b : Bool) → Err f ≡ answered (unless b (OutOfRange n)) (state_of p n) → b ≡ false
-    by_test true g = let z : ◌≡◌ {A = ℕ} 0 1 = cc in absurd (omega arith)
-    by_test false g = refl
-
--- a reading that needs a number that is not free
-pub busy_value : {A : Type 0} (p : Program) (n : ℕ) (x y : A) → Ok x ≡ answered (busy_fault p n) y → Busy p n → x ≡ y
-busy_value p n x y e b = ok_value (busy_fault p n) x y e
-
-pub busy_refused : {A : Type 0} (p : Program) (n : ℕ) (f : StoreFault) (y : A) → Err f ≡ answered (busy_fault p n) y → Busy p n → ⊥
-busy_refused p n f y e b = err_fault (busy_fault p n) f y e (busy_accepted p n b)
+    by_uses : (us : List (ℕ × ℕ)) → unused us ≡ true → [] ≡ us
+    by_uses [] e = refl
+    by_uses (u ∷ us) e = let z : ◌≡◌ {A = ℕ} 0 1 = cc in absurd (omega arith)

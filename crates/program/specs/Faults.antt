@@ -32,6 +32,11 @@ abbrev pub first_fault : (ℕ → Option StoreFault) → List ℕ → Option Sto
 first_fault f [] = None
 first_fault f (x ∷ xs) = option_or (f x) (first_fault f xs)
 
+-- the fault of a number, where there is a number
+abbrev pub slot_fault : (ℕ → Option StoreFault) → Option ℕ → Option StoreFault
+slot_fault f None = None
+slot_fault f (Some x) = f x
+
 -- 4: the number is the size or more
 abbrev pub range_fault : Program → ℕ → Option StoreFault
 range_fault p n = unless (within p n) (OutOfRange n)
@@ -60,8 +65,7 @@ rewrite_fault p n i =
 
 -- no anchor stands for the end
 abbrev pub anchor_range : Program → Option ℕ → Option StoreFault
-anchor_range p None = None
-anchor_range p (Some a) = range_fault p a
+anchor_range p = slot_fault (range_fault p)
 
 abbrev pub anchor_fault : Program → Option ℕ → Option StoreFault
 anchor_fault p None = None

@@ -5,4 +5,3 @@ pub mod Commands
 pub mod Readings
 pub mod Proper
 pub mod Laws
-pub mod Known

@@ -1,10 +1,10 @@
 -- The readings. None of them changes the program.
-use Rattle.std.specs.Prelude.{ℕ, zero, suc, ◌+◌, List, length, Some, None, Ok, Err, Option, Result}
+use Rattle.std.specs.Prelude.{ℕ, zero, suc, ◌+◌, cond, List, length, Some, None, Ok, Err, Option, Result}
 use Rattle.std.specs.List.{slice_get}
 use Rattle.ir.specs.Instructions.{Instr}
 use Rattle.program.specs.declared.fault.StoreFault.{StoreFault}
 use Rattle.program.specs.declared.state.State.{State}
-use Rattle.program.specs.Programs.{Program, state_of, at, index_of}
+use Rattle.program.specs.Programs.{Program, within, state_of, at, index_of}
 use Rattle.program.specs.Uses.{uses, least_beyond}
 use Rattle.program.specs.Faults.{range_fault, placed_fault, busy_fault}
 
@@ -12,6 +12,10 @@ use Rattle.program.specs.Faults.{range_fault, placed_fault, busy_fault}
 abbrev pub answered : {A : Type 0} → Option StoreFault → A → Result A StoreFault
 answered None x = Ok x
 answered (Some f) x = Err f
+
+-- the state of a number, where the program has it
+abbrev pub found : Program → ℕ → Option State
+found p n = cond (within p n) (Some (state_of p n)) None
 
 abbrev pub state_answer : Program → ℕ → Result State StoreFault
 state_answer p n = answered (range_fault p n) (state_of p n)

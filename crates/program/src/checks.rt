@@ -1,133 +1,145 @@
-// The checks that every store makes before a command or a reading, from what it has looked up.
-ghost use Rattle.std.specs.Prelude.{◌≡◌, ℕ, Bool, not, Option as Maybe};
+// The checks before a command or a reading, the same for every store.
+ghost use Rattle.std.specs.Prelude.{◌≡◌};
+ghost use Rattle.std.specs.Option.{option_or};
 ghost use Rattle.ir.specs.Instructions.{plain};
-ghost use Rattle.program.specs.Programs.{Program, operands};
-ghost use Rattle.program.specs.Uses.{uses, unused};
-ghost use Rattle.program.specs.Faults.{unless as model_unless, when as model_when, range_fault, operand_fault, ranges_fault, first_fault, anchor_range, anchor_fault, make_fault, rewrite_fault, link_fault, placed_fault, unmake_fault, busy_fault};
-ghost use Rattle.program.specs.Known.{Right, RightAnchor};
+ghost use Rattle.program.specs.Programs.{operands, state_of as model_state};
+ghost use Rattle.program.specs.Faults.{unless, range_fault, operand_fault, ranges_fault, first_fault, slot_fault, anchor_fault, make_fault, rewrite_fault, link_fault, placed_fault, unmake_fault, busy_fault};
+ghost use Rattle.program.specs.Commands.{verdict};
+ghost use Rattle.program.specs.declared.fault.StoreFault.TheVariants.{WrongState};
 
 use crate::fault::StoreFault;
+use crate::look::Look;
 use crate::state::State;
 use ir::instruction::Record;
 
-// A number, whether the store has it, and its state (free where the store has it not).
-#[derive(Clone, Copy)]
-pub struct Known {
-    pub number: u32,
-    pub inside: bool,
-    pub state: State,
+// The fault, unless the test holds.
+pub fn ensure(test: bool, fault: StoreFault) -> Result<(), StoreFault>
+    ensures { result ≡ verdict (unless test fault) }
+{
+    if test { Ok(()) } else { Err(fault) }
 }
 
-fn unless(test: bool, fault: StoreFault) -> Option<StoreFault>
-    ensures { result ≡ model_unless test fault }
+// The state of a number; one that the store has not counts as free.
+fn state_of<L: Look>(store: &L, n: u32) -> State
+    ensures { result ≡ model_state (L.program store.now) n }
 {
-    if test { None } else { Some(fault) }
-}
-
-fn when(test: bool, fault: Option<StoreFault>) -> Option<StoreFault>
-    ensures { result ≡ model_when test fault }
-{
-    if test { fault } else { None }
+    store.find(n).unwrap_or(State::Free)
 }
 
 // The number is one of the store's.
-pub fn range_fault(n: Known) -> Option<StoreFault>
-    ensures { (p : Program) → Right p n.number n → result ≡ range_fault p n.number }
+pub fn range<L: Look>(store: &L, n: u32) -> Result<(), StoreFault>
+    ensures { result ≡ verdict (range_fault (L.program store.now) n) }
 {
-    unless(n.inside, StoreFault::OutOfRange(n.number))
+    ensure(store.find(n).is_some(), StoreFault::OutOfRange(n))
 }
 
-fn operand_fault(n: Known, x: Known) -> Option<StoreFault>
-    ensures { (p : Program) → Right p x.number x → result ≡ operand_fault p n.number x.number }
+// The number is one of the store's, where there is a number.
+fn range_of<L: Look>(store: &L, x: Option<u32>) -> Result<(), StoreFault>
+    ensures { result ≡ verdict (slot_fault (range_fault (L.program store.now)) x) }
 {
-    unless(
-        !x.state.is_free() & (x.number != n.number),
-        StoreFault::BadOperand(x.number),
-    )
-}
-
-// In range: the number, then its operands.
-fn ranges_fault(n: Known, what: Record, a: Known, b: Known, c: Known) -> Option<StoreFault>
-    ensures { (p : Program) → Right p n.number n → Right p what.a a → Right p what.b b → Right p what.c c → result ≡ ranges_fault p n.number (plain what) }
-{
-    let count = what.op.operands();
-    let a = when(0 < count, range_fault(a));
-    let b = when(1 < count, range_fault(b));
-    let c = when(2 < count, range_fault(c));
-    range_fault(n).or(a.or(b.or(c)))
-}
-
-// Not free and not the instruction itself: its operands.
-fn operands_fault(n: Known, what: Record, a: Known, b: Known, c: Known) -> Option<StoreFault>
-    ensures { (p : Program) → Right p what.a a → Right p what.b b → Right p what.c c → result ≡ first_fault (operand_fault p n.number) (operands (plain what)) }
-{
-    let count = what.op.operands();
-    let a = when(0 < count, operand_fault(n, a));
-    let b = when(1 < count, operand_fault(n, b));
-    let c = when(2 < count, operand_fault(n, c));
-    a.or(b.or(c))
-}
-
-// A free number gets a record; a, b and c are its operands.
-pub fn make_fault(n: Known, what: Record, a: Known, b: Known, c: Known) -> Option<StoreFault>
-    ensures { (p : Program) → Right p n.number n → Right p what.a a → Right p what.b b → Right p what.c c → result ≡ make_fault p n.number (plain what) }
-{
-    let state = unless(n.state.is_free(), StoreFault::WrongState(n.number));
-    ranges_fault(n, what, a, b, c).or(state.or(operands_fault(n, what, a, b, c)))
-}
-
-// A number that is not free gets another record; a, b and c are its operands.
-pub fn rewrite_fault(n: Known, what: Record, a: Known, b: Known, c: Known) -> Option<StoreFault>
-    ensures { (p : Program) → Right p n.number n → Right p what.a a → Right p what.b b → Right p what.c c → result ≡ rewrite_fault p n.number (plain what) }
-{
-    let state = unless(!n.state.is_free(), StoreFault::WrongState(n.number));
-    ranges_fault(n, what, a, b, c).or(state.or(operands_fault(n, what, a, b, c)))
-}
-
-fn anchor_range(anchor: Option<Known>) -> Option<StoreFault>
-    ensures { (p : Program) (x : Maybe ℕ) → RightAnchor p x anchor → result ≡ anchor_range p x }
-{
-    match anchor {
-        Some(a) => range_fault(a),
-        None => None,
+    match x {
+        Some(x) => range(store, x),
+        None => Ok(()),
     }
 }
 
-fn anchor_fault(anchor: Option<Known>) -> Option<StoreFault>
-    ensures { (p : Program) (x : Maybe ℕ) → RightAnchor p x anchor → result ≡ anchor_fault p x }
+// In range: the number, then its operands.
+fn ranges<L: Look>(store: &L, n: u32, what: Record) -> Result<(), StoreFault>
+    ensures { result ≡ verdict (ranges_fault (L.program store.now) n (plain what)) }
+{
+    let [a, b, c] = what.operands();
+    range(store, n)?;
+    range_of(store, a)?;
+    range_of(store, b)?;
+    range_of(store, c)
+}
+
+// Not free and not the instruction itself: an operand, where there is one.
+fn operand<L: Look>(store: &L, n: u32, x: Option<u32>) -> Result<(), StoreFault>
+    ensures { result ≡ verdict (slot_fault (operand_fault (L.program store.now) n) x) }
+{
+    match x {
+        Some(x) => ensure(
+            !state_of(store, x).is_free() && x != n,
+            StoreFault::BadOperand(x),
+        ),
+        None => Ok(()),
+    }
+}
+
+// Not free and not the instruction itself: each of its operands.
+fn operands<L: Look>(store: &L, n: u32, what: Record) -> Result<(), StoreFault>
+    ensures { result ≡ verdict (first_fault (operand_fault (L.program store.now) n) (operands (plain what))) }
+{
+    let [a, b, c] = what.operands();
+    operand(store, n, a)?;
+    operand(store, n, b)?;
+    operand(store, n, c)
+}
+
+// The number may hold the record, if its state is right for that.
+fn hold<L: Look>(store: &L, n: u32, what: Record, right: bool) -> Result<(), StoreFault>
+    ensures { result ≡ verdict (option_or (ranges_fault (L.program store.now) n (plain what)) (option_or (unless right (WrongState n)) (first_fault (operand_fault (L.program store.now) n) (operands (plain what))))) }
+{
+    ranges(store, n, what)?;
+    ensure(right, StoreFault::WrongState(n))?;
+    operands(store, n, what)
+}
+
+// A free number gets a record.
+pub fn make<L: Look>(store: &L, n: u32, what: Record) -> Result<(), StoreFault>
+    ensures { result ≡ verdict (make_fault (L.program store.now) n (plain what)) }
+{
+    hold(store, n, what, state_of(store, n).is_free())
+}
+
+// A number that is not free gets another record.
+pub fn rewrite<L: Look>(store: &L, n: u32, what: Record) -> Result<(), StoreFault>
+    ensures { result ≡ verdict (rewrite_fault (L.program store.now) n (plain what)) }
+{
+    hold(store, n, what, !state_of(store, n).is_free())
+}
+
+fn anchor<L: Look>(store: &L, anchor: Option<u32>) -> Result<(), StoreFault>
+    ensures { result ≡ verdict (anchor_fault (L.program store.now) anchor) }
 {
     match anchor {
-        Some(a) => unless(a.state.is_placed(), StoreFault::BadAnchor(a.number)),
-        None => None,
+        Some(a) => ensure(state_of(store, a).is_placed(), StoreFault::BadAnchor(a)),
+        None => Ok(()),
     }
 }
 
 // A loose number is put before a placed anchor, or at the end.
-pub fn link_fault(n: Known, anchor: Option<Known>) -> Option<StoreFault>
-    ensures { (p : Program) (x : Maybe ℕ) → Right p n.number n → RightAnchor p x anchor → result ≡ link_fault p n.number x }
+pub fn link<L: Look>(store: &L, n: u32, before: Option<u32>) -> Result<(), StoreFault>
+    ensures { result ≡ verdict (link_fault (L.program store.now) n before) }
 {
-    let state = unless(n.state.is_loose(), StoreFault::WrongState(n.number));
-    range_fault(n).or(anchor_range(anchor).or(state.or(anchor_fault(anchor))))
+    range(store, n)?;
+    range_of(store, before)?;
+    ensure(state_of(store, n).is_loose(), StoreFault::WrongState(n))?;
+    anchor(store, before)
 }
 
 // The number is placed.
-pub fn placed_fault(n: Known) -> Option<StoreFault>
-    ensures { (p : Program) → Right p n.number n → result ≡ placed_fault p n.number }
+pub fn placed<L: Look>(store: &L, n: u32) -> Result<(), StoreFault>
+    ensures { result ≡ verdict (placed_fault (L.program store.now) n) }
 {
-    range_fault(n).or(unless(n.state.is_placed(), StoreFault::WrongState(n.number)))
+    range(store, n)?;
+    ensure(state_of(store, n).is_placed(), StoreFault::WrongState(n))
 }
 
-// A loose number is made free; `is_unused` says that it has no use.
-pub fn unmake_fault(n: Known, is_unused: bool) -> Option<StoreFault>
-    ensures { (p : Program) → Right p n.number n → is_unused ≡ unused (uses p n.number) → result ≡ unmake_fault p n.number }
+// A loose number that nothing reads is made free.
+pub fn unmake<L: Look>(store: &L, n: u32) -> Result<(), StoreFault>
+    ensures { result ≡ verdict (unmake_fault (L.program store.now) n) }
 {
-    let state = unless(n.state.is_loose(), StoreFault::WrongState(n.number));
-    range_fault(n).or(state.or(unless(is_unused, StoreFault::StillUsed(n.number))))
+    range(store, n)?;
+    ensure(state_of(store, n).is_loose(), StoreFault::WrongState(n))?;
+    ensure(store.is_unused(n), StoreFault::StillUsed(n))
 }
 
 // The number is not free.
-pub fn busy_fault(n: Known) -> Option<StoreFault>
-    ensures { (p : Program) → Right p n.number n → result ≡ busy_fault p n.number }
+pub fn busy<L: Look>(store: &L, n: u32) -> Result<(), StoreFault>
+    ensures { result ≡ verdict (busy_fault (L.program store.now) n) }
 {
-    range_fault(n).or(unless(!n.state.is_free(), StoreFault::WrongState(n.number)))
+    range(store, n)?;
+    ensure(!state_of(store, n).is_free(), StoreFault::WrongState(n))
 }

@@ -4,7 +4,7 @@ ghost use Rattle.program.specs.Faults.{store_report};
 
 use ir::fault::{Layer, Report};
 
-#[derive(Clone, Copy)]
+#[derive(Clone, Copy, PartialEq, Eq)]
 pub enum StoreFault {
     OutOfRange(u32),
     WrongState(u32),
@@ -13,27 +13,16 @@ pub enum StoreFault {
     BadAnchor(u32),
 }
 
-fn store_fault(number: u32, place: u32) -> Report
-    ensures { result ≡ record { number = number; layer = Layer.Store; place = place } }
-{
-    Report {
-        number,
-        layer: Layer::Store,
-        place: place as usize,
-    }
-}
+impl From<StoreFault> for Report {
+    ghost from_gives = { λ f r. r ≡ store_report f };
 
-impl StoreFault {
-    // The fault's number, its layer and the number of the program at which it was found.
-    pub fn report(self) -> Report
-        ensures { result ≡ store_report self }
-    {
-        match self {
-            StoreFault::OutOfRange(n) => store_fault(4, n),
-            StoreFault::WrongState(n) => store_fault(6, n),
-            StoreFault::BadOperand(n) => store_fault(7, n),
-            StoreFault::StillUsed(n) => store_fault(8, n),
-            StoreFault::BadAnchor(n) => store_fault(9, n),
+    fn from(fault: StoreFault) -> Report {
+        match fault {
+            StoreFault::OutOfRange(n) => Layer::Store.report(4, n as usize),
+            StoreFault::WrongState(n) => Layer::Store.report(6, n as usize),
+            StoreFault::BadOperand(n) => Layer::Store.report(7, n as usize),
+            StoreFault::StillUsed(n) => Layer::Store.report(8, n as usize),
+            StoreFault::BadAnchor(n) => Layer::Store.report(9, n as usize),
         }
     }
 }

@@ -4,6 +4,7 @@
 pub mod checks;
 pub mod fault;
 pub mod laws;
+pub mod look;
 pub mod reading;
 pub mod state;
 pub mod store;

@@ -17,9 +17,6 @@ pub trait Store {
     // The program that the store means.
     ghost program: { Self → Program };
 
-    // What each store proves of every value: its program is proper.
-    ghost proper: { (s : Self) → Proper (program s) };
-
     // Gives a free number a record; it is then loose.
     fn make(&mut self, n: u32, what: Record) -> Result<(), StoreFault>
         ensures answer { result ≡ verdict (make_fault (program self.old) n (plain what)) }
@@ -46,48 +43,38 @@ pub trait Store {
         ensures after { program self.new ≡ after_rewrite (program self.old) n (plain what) };
 
     // How many numbers there are, free ones too.
-    fn size(&mut self) -> u32
-        ensures answer { result ≡ size (program self.old) }
-        ensures after { program self.new ≡ program self.old };
+    fn size(&self) -> u32
+        ensures { result ≡ size (program self.now) };
 
-    fn state(&mut self, n: u32) -> Result<State, StoreFault>
-        ensures answer { result ≡ state_answer (program self.old) n }
-        ensures after { program self.new ≡ program self.old };
+    fn state(&self, n: u32) -> Result<State, StoreFault>
+        ensures { result ≡ state_answer (program self.now) n };
 
     // The record of a number that is not free.
-    fn read(&mut self, n: u32) -> Result<Record, StoreFault>
-        ensures answer { result_map_both plain (λ f. f) result ≡ read_answer (program self.old) n }
-        ensures after { program self.new ≡ program self.old };
+    fn read(&self, n: u32) -> Result<Record, StoreFault>
+        ensures { result_map_both plain (λ f. f) result ≡ read_answer (program self.now) n };
 
     // The first and the last number of the order.
-    fn first(&mut self) -> Option<u32>
-        ensures answer { result ≡ first_of (program self.old) }
-        ensures after { program self.new ≡ program self.old };
+    fn first(&self) -> Option<u32>
+        ensures { result ≡ first_of (program self.now) };
 
-    fn last(&mut self) -> Option<u32>
-        ensures answer { result ≡ last_of (program self.old) }
-        ensures after { program self.new ≡ program self.old };
+    fn last(&self) -> Option<u32>
+        ensures { result ≡ last_of (program self.now) };
 
     // The neighbours of a placed number in the order.
-    fn next(&mut self, n: u32) -> Result<Option<u32>, StoreFault>
-        ensures answer { result ≡ next_answer (program self.old) n }
-        ensures after { program self.new ≡ program self.old };
+    fn next(&self, n: u32) -> Result<Option<u32>, StoreFault>
+        ensures { result ≡ next_answer (program self.now) n };
 
-    fn previous(&mut self, n: u32) -> Result<Option<u32>, StoreFault>
-        ensures answer { result ≡ previous_answer (program self.old) n }
-        ensures after { program self.new ≡ program self.old };
+    fn previous(&self, n: u32) -> Result<Option<u32>, StoreFault>
+        ensures { result ≡ previous_answer (program self.now) n };
 
     // How many uses a number that is not free has.
-    fn count_uses(&mut self, n: u32) -> Result<u32, StoreFault>
-        ensures answer { result ≡ count_answer (program self.old) n }
-        ensures after { program self.new ≡ program self.old };
+    fn count_uses(&self, n: u32) -> Result<u32, StoreFault>
+        ensures { result ≡ count_answer (program self.now) n };
 
     // The least use, by user and position, that is greater than a given pair, or the least of all.
-    fn next_use(
-        &mut self,
-        n: u32,
-        after: Option<(u32, u8)>,
-    ) -> Result<Option<(u32, u8)>, StoreFault>
-        ensures answer { result ≡ use_answer (program self.old) n after }
-        ensures after { program self.new ≡ program self.old };
+    fn next_use(&self, n: u32, after: Option<(u32, u8)>) -> Result<Option<(u32, u8)>, StoreFault>
+        ensures { result ≡ use_answer (program self.now) n after };
+
+    // The program of every store is proper.
+    ghost proper: { (s : Self) → Proper (program s) };
 }

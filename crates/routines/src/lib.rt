@@ -1,8 +1,10 @@
 // Two routines that work under held saves and give every token its due.
 #![tactic(auto)]
 
+ghost use Rattle.std.specs.Prelude.{◌≡◌};
 ghost use Rattle.session.specs.Meaning.{meaning};
 ghost use Rattle.routines.specs.Held.{Back, ForGood};
+ghost use Rattle.routines.specs.declared.Stopped.TheVariants.{NotClosed};
 
 use program::store::Store;
 use session::fault::SessionFault;
@@ -15,22 +17,22 @@ pub enum Stopped {
     NotClosed(SessionFault, Token),
 }
 
+impl From<(SessionFault, Token)> for Stopped {
+    ghost from_gives = { λ x r. r ≡ NotClosed x.0 x.1 };
+
+    fn from((fault, token): (SessionFault, Token)) -> Stopped {
+        Stopped::NotClosed(fault, token)
+    }
+}
+
 // Whether a number could be detached; the session is as it was.
 pub fn could_detach<S: Store, M>(session: &mut Session<S, M>, n: u32) -> Result<bool, Stopped>
     ensures { Back n (meaning S.program session.old) (meaning S.program session.new) result }
 {
-    let token = match session.hold() {
-        Ok(token) => token,
-        Err(fault) => return Err(Stopped::NotHeld(fault)),
-    };
+    let token = session.hold().map_err(Stopped::NotHeld)?;
     let could = session.detach(n).is_ok();
-    match session.revert_held(token) {
-        Ok(()) => Ok(could),
-        Err(refused) => {
-            let (fault, token) = refused;
-            Err(Stopped::NotClosed(fault, token))
-        }
-    }
+    session.revert_held(token)?;
+    Ok(could)
 }
 
 // Detaches a number for good under a held save, then asks under a second one whether another number could be detached too.
@@ -41,16 +43,8 @@ pub fn detach_for_good<S: Store, M>(
 ) -> Result<bool, Stopped>
     ensures { ForGood n other (meaning S.program session.old) (meaning S.program session.new) result }
 {
-    let token = match session.hold() {
-        Ok(token) => token,
-        Err(fault) => return Err(Stopped::NotHeld(fault)),
-    };
+    let token = session.hold().map_err(Stopped::NotHeld)?;
     let _ = session.detach(n);
-    match session.accept_held(token) {
-        Ok(()) => could_detach(session, other),
-        Err(refused) => {
-            let (fault, token) = refused;
-            Err(Stopped::NotClosed(fault, token))
-        }
-    }
+    session.accept_held(token)?;
+    could_detach(session, other)
 }

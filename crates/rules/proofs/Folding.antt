@@ -1,9 +1,11 @@
 -- Rules 1, 2 and 5 are valid: dead instructions, operations on constants, and twins.
-use Rattle.std.proofs.Common.{◌≡◌, ℕ, ◌<◌, Bool, true, false, cond, not, ◌&&◌, eqb, List, [], ◌∷◌, get_or, sym, refl, ap, ◌∙◌, inl, inr, ⊎_elim, lit<}
+use Rattle.std.proofs.Common.{◌≡◌, ℕ, ◌<◌, Bool, true, false, cond, not, ◌&&◌, eqb, List, [], ◌∷◌, Some, sym, refl, ap, ◌∙◌, inl, inr, ⊎_elim, lit<}
 use mathlib.Core.Bool.{false≢true}
+use Rattle.std.proofs.lemmas.Option.{same_Some}
 use Rattle.std.proofs.lemmas.Bool.{eqb-true, eqb-false, and_parts, not-true, cond_both}
 use Rattle.ir.specs.declared.operation.Op.{Op}
-use Rattle.ir.specs.declared.operation.Op.TheVariants.{Constant, Input, Add, Subtract, Multiply, And, Or, Xor, Less, Equal, Pick, Shift, Out}
+use Rattle.ir.specs.declared.operation.Op.TheVariants.{Constant}
+use Rattle.ir.specs.Operations.{operation_of}
 use Rattle.ir.specs.Instructions.{Instr, constant_of}
 use Rattle.ir.specs.Values.{word}
 use Rattle.program.specs.Programs.{Program, at, takes, In, Before}
@@ -21,48 +23,32 @@ use Rattle.rules.proofs.Known.{constant_is, become_constant}
 
 -- ---- equal records
 
-decode : ℕ → Op
-decode k =
-    get_or
-    (Constant ∷ (Input ∷ (Add ∷ (Subtract ∷ (Multiply ∷ (And ∷ (Or ∷ (Xor ∷ (Less ∷ (Equal ∷ (Pick ∷ (Shift ∷ (Out ∷ [])))))))))))))
-    k
-    Constant
+code_is : (o : Op) → operation_of (code_of o) ≡ Some o
+code_is Constant = refl
+code_is o = refl
 
-decode_code : (o : Op) → decode (code_of o) ≡ o
-unfolding decode
-decode_code Constant = refl
-decode_code Input = refl
-decode_code Add = refl
-decode_code Subtract = refl
-decode_code Multiply = refl
-decode_code And = refl
-decode_code Or = refl
-decode_code Xor = refl
-decode_code Less = refl
-decode_code Equal = refl
-decode_code Pick = refl
-decode_code Shift = refl
-decode_code Out = refl
+same_code : (o q : Op) → code_of o ≡ code_of q → o ≡ q
+same_code o q e = same_Some o q (sym (code_is o) ∙ (ap operation_of e ∙ code_is q))
 
-module _ (i j : Instr) where
-  abbrev same_op : Bool
-  same_op = eqb (code_of i.op) (code_of j.op)
+-- each of five tests that hold together holds
+five_parts : (a b c d e : Bool) → (a && b && c && d && e) ≡ true → (a ≡ true) × (b ≡ true) × (c ≡ true) × (d ≡ true) × (e ≡ true)
+five_parts a b c d e h =
+    let p = and_parts (a && b && c && d) e h in
+    let q = and_parts (a && b && c) d p.0 in
+    let r = and_parts (a && b) c q.0 in
+    let s = and_parts a b r.0 in
+    (s.0, s.1, r.1, q.1, p.1)
 
-  same_record : same_rec i j ≡ true → i ≡ j
-  same_record e =
-      let e4 = and_parts (same_op && eqb i.literal j.literal && eqb i.a j.a && eqb i.b j.b) (eqb i.c j.c) e in
-      let e3 = and_parts (same_op && eqb i.literal j.literal && eqb i.a j.a) (eqb i.b j.b) e4.0 in
-      let e2 = and_parts (same_op && eqb i.literal j.literal) (eqb i.a j.a) e3.0 in
-      let e1 = and_parts same_op (eqb i.literal j.literal) e2.0 in
-      let op : i.op ≡ j.op
-      = sym (decode_code i.op) ∙ (ap decode (eqb-true (code_of i.op) (code_of j.op) e1.0) ∙ decode_code j.op) in
-      λ k. record {
-        op = op k;
-        literal = eqb-true i.literal j.literal e1.1 k;
-        a = eqb-true i.a j.a e2.1 k;
-        b = eqb-true i.b j.b e3.1 k;
-        c = eqb-true i.c j.c e4.1 k;
-      }
+same_record : (i j : Instr) → same_rec i j ≡ true → i ≡ j
+same_record i j e =
+    let t = five_parts (eqb (code_of i.op) (code_of j.op)) (eqb i.literal j.literal) (eqb i.a j.a) (eqb i.b j.b) (eqb i.c j.c) e in
+    λ k. record {
+      op = same_code i.op j.op (eqb-true (code_of i.op) (code_of j.op) t.0) k;
+      literal = eqb-true i.literal j.literal t.1 k;
+      a = eqb-true i.a j.a t.2 k;
+      b = eqb-true i.b j.b t.3 k;
+      c = eqb-true i.c j.c t.4 k;
+    }
 
 known_constant : (p : Program) (h : Bool) (k : ℕ) → known p h k ≡ true → h ≡ true → constant? (at p k).op ≡ true
 known_constant p true k e t = e
@@ -90,19 +76,16 @@ module _ (p : Program) (n : ℕ) (s : Sound p) (i : In n p.order) where
       let literals : ℕ → ℕ = λ m. (at p m).literal in
       cond_both (all_known p r) (become (constant_of (value r literals []))) nothing (Valid p n)
       (λ e.
-      let e3 = and_parts (h0 && quiet && k0 && k1) k2 e in
-      let e2 = and_parts (h0 && quiet && k0) k1 e3.0 in
-      let e1 = and_parts (h0 && quiet) k0 e2.0 in
-      let e0 = and_parts h0 quiet e1.0 in
+      let t = five_parts h0 quiet k0 k1 k2 e in
       let b = s.1 n i in
-      let c0 = λ (h : h0 ≡ true). known_constant p h0 r.a e1.1 h in
-      let c1 = λ (h : h1 ≡ true). known_constant p h1 r.b e2.1 h in
-      let c2 = λ (h : h2 ≡ true). known_constant p h2 r.c e3.1 h in
+      let c0 = λ (h : h0 ≡ true). known_constant p h0 r.a t.2 h in
+      let c1 = λ (h : h1 ≡ true). known_constant p h1 r.b t.3 h in
+      let c2 = λ (h : h2 ≡ true). known_constant p h2 r.c t.4 h in
       let small : (k : ℕ) → constant? (at p k).op ≡ true → literals k < word
       = λ k t. constant_word (at p k).op (at p k).literal t (s.0.shaped k).0 in
       become_constant p n (value r literals [])
       (instr_word r literals [] (s.0.shaped n).0 (λ k. lit< tt) (λ h. small r.a (c0 h), λ h. small r.b (c1 h), λ h. small r.c (c2 h)))
-      (not-true (out? r.op) e0.1)
+      (not-true (out? r.op) t.1)
       (λ w v a f.
       f n i
       ∙ (value_cong r v literals w (
@@ -110,7 +93,7 @@ module _ (p : Program) (n : ℕ) (s : Sound p) (i : In n p.order) where
         λ h. constant_is p n r.b (b.1 h) (c1 h) w v a f,
         λ h. constant_is p n r.c (b.2 h) (c2 h) w v a f,
       )
-      ∙ value_closed r.op r.literal w [] (arg h0 literals r.a) (arg h1 literals r.b) (arg h2 literals r.c) e0.0)))
+      ∙ value_closed r.op r.literal w [] (arg h0 literals r.a) (arg h1 literals r.b) (arg h2 literals r.c) t.0)))
       (λ e. tt)
 
   twin_from :

@@ -1,9 +1,9 @@
 -- A valid change keeps a program well formed, and its outputs.
-use Rattle.std.proofs.Common.{◌≡◌, ℕ, Bool, true, false, cond, eqb, List, Some, None, sym, refl, ap, ◌∙◌, subst}
+use Rattle.std.proofs.Common.{◌≡◌, ℕ, Bool, true, false, eqb, List, Some, None, sym, refl, ap, ◌∙◌, subst}
 use mathlib.Core.Bool.{false≢true}
 use lib.ListN.{get_or-map}
 use Rattle.std.specs.List.{remove}
-use Rattle.std.proofs.lemmas.Bool.{eqb-true}
+use Rattle.std.proofs.lemmas.Bool.{eqb-true, cond_both}
 use Rattle.std.proofs.lemmas.List.{get_or-set_other}
 use Rattle.ir.specs.Instructions.{Instr}
 use Rattle.ir.specs.Values.{value_of}
@@ -71,11 +71,7 @@ module _ (p : Program) (n : ℕ) (s : Sound p) (t : Proper (take_out p n)) (quie
 
 arg_swapped : (h : Bool) (v : ℕ → ℕ) (n y k : ℕ) → v n ≡ v y → arg h v (swapped h n y k) ≡ arg h v k
 arg_swapped false v n y k e = refl
-arg_swapped true v n y k e = go (eqb k n) refl
-  where
-    go : (t : Bool) → eqb k n ≡ t → v (cond t y k) ≡ v k
-    go true q = sym (ap v (eqb-true k n q) ∙ e)
-    go false q = refl
+arg_swapped true v n y k e = cond_both (eqb k n) y k (λ z. v z ≡ v k) (λ q. sym (ap v (eqb-true k n q) ∙ e)) (λ q. refl)
 
 value_rename : (i : Instr) (v : ℕ → ℕ) (w : List ℕ) (n y : ℕ) → v n ≡ v y → value (rename n y i) v w ≡ value i v w
 value_rename i v w n y e =
@@ -84,11 +80,7 @@ value_rename i v w n y e =
 
 swapped_is : (P : ℕ → Type 0) (h : Bool) (n y k : ℕ) → (h ≡ true → P k) → (P n → P y) → h ≡ true → P (swapped h n y k)
 swapped_is P false n y k f g e = absurd (false≢true e)
-swapped_is P true n y k f g e = go (eqb k n) refl
-  where
-    go : (t : Bool) → eqb k n ≡ t → P (cond t y k)
-    go true q = g (subst P (eqb-true k n q) (f refl))
-    go false q = f refl
+swapped_is P true n y k f g e = cond_both (eqb k n) y k P (λ q. g (subst P (eqb-true k n q) (f refl))) (λ q. f refl)
 
 operands_rename : (i : Instr) (P : ℕ → Type 0) (n y : ℕ) → (P n → P y) → Operands i P → Operands (rename n y i) P
 operands_rename i P n y g o = (

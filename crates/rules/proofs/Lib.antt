@@ -9,8 +9,6 @@ pub mod Replacements
 pub mod Rules
 pub mod Trials
 pub mod Passes
-pub mod Unused
-pub mod Logs
-pub mod Literals
 pub mod Numbers
 pub mod Spending
+pub mod Logs

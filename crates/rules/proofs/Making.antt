@@ -9,6 +9,7 @@ use Rattle.program.specs.Uses.{uses, unused}
 use Rattle.program.specs.Faults.{placed_fault, unmake_fault, rewrite_fault}
 use Rattle.program.specs.Commands.{put, reorder}
 use Rattle.program.specs.Proper.{Proper}
+use Rattle.program.proofs.Faults.{settles}
 use Rattle.program.proofs.Operands.{operands_map}
 use Rattle.program.proofs.Orders.{before_left}
 use Rattle.program.proofs.Uses.{unused_none}
@@ -18,8 +19,8 @@ use Rattle.edits.specs.Commands.{Edit, unlink, unmake, after, opposite, Fair}
 use Rattle.edits.specs.Journals.{play, Runs, journal}
 use Rattle.edits.specs.Replace.{replace, Replaceable, swap}
 use Rattle.edits.proofs.Moves.{out_then}
-use Rattle.edits.proofs.Positions.{no_use}
-use Rattle.edits.proofs.Undoing.{settles, edits_keep_proper}
+use Rattle.program.proofs.Positions.{no_use}
+use Rattle.edits.proofs.Undoing.{edits_keep_proper}
 use Rattle.edits.proofs.Journals.{journal_law}
 use Rattle.edits.proofs.Renaming.{replace_end}
 use Rattle.edits.proofs.Swaps.{replace_accepted, replace_step, replace_law}
@@ -155,9 +156,7 @@ length_commands p n (become i) = refl
 
 pub cost_need : (p : Program) (n : ℕ) (change : Change) → cost p n change ≤ need p n
 cost_need p n nothing = omega arith
-cost_need p n vanish = omega arith
-cost_need p n (drop_for y) = omega arith
-cost_need p n (become i) = omega arith
+cost_need p n change = omega arith
 
 pub by_commands : (p : Program) (n : ℕ) (change : Change) → Sound p → In n p.order → Valid p n change → ByCommands p n change
 by_commands p n change s i v =

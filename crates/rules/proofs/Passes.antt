@@ -3,7 +3,7 @@ use Rattle.std.proofs.Common.{◌≡◌, ℕ, zero, suc, ◌+◌, ◌-◌, ◌<�
 use Rattle.std.proofs.lemmas.Bool.{ltb-true, ltb-false, le-ltb, eqb-true, eqb-false, cond_both, cond-false}
 use Rattle.program.specs.Programs.{Program, In, Distinct}
 use Rattle.runs.specs.Prices.{Costing, price}
-use Rattle.rules.specs.Rules.{Change, nothing, vanish, drop_for, become, apply, cost}
+use Rattle.rules.specs.Rules.{Change, nothing, apply, cost}
 use Rattle.rules.specs.Trials.{choice, trial, Answer, did, short, need, spared_trial, onward, counted, tally, spared_round, rounds, spared_pass}
 use Rattle.rules.specs.Laws.{Sound, Chain, Settled, Better, Refused, Room, Passed, SparedPassLaw, Again, SecondPassLaw}
 use Rattle.rules.proofs.Making.{cost_need}
@@ -14,9 +14,7 @@ use Rattle.rules.proofs.Trials.{Chosen, choice_chosen, trial_none, better_chain,
 -- a change that lowers the price costs a record
 cost_some : (c : Costing) (p : Program) (n : ℕ) (change : Change) → price c (apply p n change) < price c p → 0 < cost p n change
 cost_some c p n nothing l = absurd (omega arith)
-cost_some c p n vanish l = omega arith
-cost_some c p n (drop_for y) l = omega arith
-cost_some c p n (become i) l = omega arith
+cost_some c p n change l = omega arith
 
 pub spent_for :
     (c : Costing) (p : Program) (n z k s : ℕ) (r : ℕ × Change) → Chosen c p n r → need p n ≤ z → z + k ≤ s

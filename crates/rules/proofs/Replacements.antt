@@ -1,10 +1,10 @@
 -- Rules 3, 4 and 6 are valid: operands of the same value, results that are always 0, and products with powers of 2.
-use Rattle.std.proofs.Common.{◌≡◌, ℕ, zero, suc, ◌+◌, ◌-◌, ◌*◌, ◌%◌, ◌^◌, ◌<◌, ◌≤◌, Bool, true, false, cond, ◌||◌, eqb, refl, ap, ◌∙◌, ⊎_elim, mul_comm, arith, lit<}
+use Rattle.std.proofs.Common.{◌≡◌, ℕ, zero, suc, ◌+◌, ◌-◌, ◌*◌, ◌%◌, ◌^◌, ◌<◌, Bool, true, false, cond, ◌||◌, eqb, refl, ap, ◌∙◌, ⊎_elim, mul_comm, arith, lit<}
 use mathlib.Core.Bool.{false≢true}
 use lib.Bits.{bit_and, bit_or, bit_xor, and_zero_l, and_zero_r, or_zero_l, or_zero_r, xor_zero_l, xor_zero_r, xor_self}
 use Rattle.std.proofs.lemmas.Bool.{eqb-true, or_cases, cond_both}
 use Rattle.ir.specs.declared.operation.Op.{Op}
-use Rattle.ir.specs.declared.operation.Op.TheVariants.{Constant, Input, Add, Subtract, Multiply, And, Or, Xor, Less, Equal, Pick, Shift, Out}
+use Rattle.ir.specs.declared.operation.Op.TheVariants.{Add, Subtract, Multiply, And, Or, Xor, Pick, Shift}
 use Rattle.ir.specs.Instructions.{constant_of}
 use Rattle.ir.specs.Values.{word}
 use Rattle.program.specs.Programs.{Program, at, takes, In, Before}
@@ -12,29 +12,16 @@ use Rattle.runs.specs.Runs.{out?}
 use Rattle.rules.specs.Rules.{nothing, drop_for, become, constant?, is, neutral, same_by, zero_if, fixed_by, log_to, log, shift_of, shift_by, power_by, by_op}
 use Rattle.rules.specs.Laws.{Sound}
 use Rattle.rules.proofs.Valid.{Always, Valid}
+use Rattle.rules.proofs.Logs.{log_is}
 use Rattle.rules.proofs.Known.{constant_is, is_value, word_of, become_constant, Two, means_by, two}
 
 -- ---- powers of 2
 
-log_is : (x m k : ℕ) → log_to x m ≡ suc k → (x ≡ 2 ^ (suc k)) × (suc k ≤ m)
-log_is x zero k e = absurd (omega arith)
-log_is x (suc m) k e = go (eqb x (2 ^ (suc m))) refl (log_is x m k) e
-  where
-    go : (t : Bool) → eqb x (2 ^ (suc m)) ≡ t → (log_to x m ≡ suc k → (x ≡ 2 ^ (suc k)) × (suc k ≤ m))
-        → cond t (suc m) (log_to x m) ≡ suc k → (x ≡ 2 ^ (suc k)) × (suc k ≤ suc m)
-    go true q ih z = (eqb-true x (2 ^ (suc m)) q ∙ ap (λ y. 2 ^ y) z, omega arith)
-    go false q ih z = ((ih z).0, let l : suc k ≤ m = (ih z).1 in omega arith)
-
 power_is : (p : Program) (m k : ℕ) → log p m ≡ suc k → (constant? (at p m).op ≡ true) × ((at p m).literal ≡ 2 ^ (suc k)) × (suc k < 32)
-power_is p m k e = go (constant? (at p m).op) refl e
-  where
-    go : (t : Bool) → constant? (at p m).op ≡ t → cond t (log_to (at p m).literal 31) 0 ≡ suc k
-        → (constant? (at p m).op ≡ true) × ((at p m).literal ≡ 2 ^ (suc k)) × (suc k < 32)
-    go true q z =
-        let l = log_is (at p m).literal 31 k z in
-        let b : suc k ≤ 31 = l.1 in
-        (q, l.0, omega arith)
-    go false q z = absurd (omega arith)
+power_is p m k =
+    cond_both (constant? (at p m).op) (log_to (at p m).literal 31) 0 (λ x. x ≡ suc k → (constant? (at p m).op ≡ true) × ((at p m).literal ≡ 2 ^ (suc k)) × (suc k < 32))
+    (λ q z. let l = log_is (at p m).literal 31 k z in (q, l.0, omega arith))
+    (λ q z. absurd (omega arith))
 
 module _ (p : Program) (n : ℕ) (s : Sound p) (i : In n p.order) where
   abbrev a : ℕ
@@ -80,17 +67,13 @@ module _ (p : Program) (n : ℕ) (s : Sound p) (i : In n p.order) where
       cond_both (constant? (at p a).op) (drop_for (cond (eqb (at p a).literal 0) c b)) nothing (Valid p n)
       (λ t. (
         ap out? e,
-        which (eqb (at p a).literal 0) (first.2 (ap (takes 2) e)) (first.1 (ap (takes 1) e)),
+        cond_both (eqb (at p a).literal 0) c b First (λ q. first.2 (ap (takes 2) e)) (λ q. first.1 (ap (takes 1) e)),
         λ w v u f.
             means_by p n s i Pick e w v u f
             ∙ (ap (λ x. cond (eqb x 0) (v c) (v b)) (constant_is p n a first_a t w v u f) ∙ inside (eqb (at p a).literal 0) v),
       ))
       (λ t. tt)
     where
-      which : (t : Bool) → First c → First b → First (cond t c b)
-      which true x y = x
-      which false x y = y
-
       inside : (t : Bool) (v : ℕ → ℕ) → cond t (v c) (v b) ≡ v (cond t c b)
       inside true v = refl
       inside false v = refl
@@ -111,8 +94,6 @@ module _ (p : Program) (n : ℕ) (s : Sound p) (i : In n p.order) where
       (λ t. tt)
 
   same_from : (o : Op) → (at p n).op ≡ o → Valid p n (same_by p (at p n) o)
-  same_from Constant e = tt
-  same_from Input e = tt
   same_from Add e =
       let f : ℕ → ℕ → ℕ = λ x y. (x + y) % word in
       neutral_valid f 0 (two p n s i Add e f refl refl refl (λ l w x y z. refl)) (λ x h. omega arith) (λ x h. omega arith)
@@ -132,14 +113,11 @@ module _ (p : Program) (n : ℕ) (s : Sound p) (i : In n p.order) where
   same_from Multiply e =
       let f : ℕ → ℕ → ℕ = λ x y. (x * y) % word in
       neutral_valid f 1 (two p n s i Multiply e f refl refl refl (λ l w x y z. refl)) (λ x h. omega arith) (λ x h. omega arith)
-  same_from And e = tt
   same_from Or e = neutral_valid bit_or 0 (two p n s i Or e bit_or refl refl refl (λ l w x y z. refl)) (λ x h. or_zero_r x) (λ x h. or_zero_l x)
   same_from Xor e = neutral_valid bit_xor 0 (two p n s i Xor e bit_xor refl refl refl (λ l w x y z. refl)) (λ x h. xor_zero_r x) (λ x h. xor_zero_l x)
-  same_from Less e = tt
-  same_from Equal e = tt
   same_from Pick e = pick_valid e
   same_from Shift e = shift_valid e
-  same_from Out e = tt
+  same_from o e = tt
 
   pub same_valid : Valid p n (by_op same_by p n)
   same_valid = same_from (at p n).op refl
@@ -164,9 +142,6 @@ module _ (p : Program) (n : ℕ) (s : Sound p) (i : In n p.order) where
       (λ t. tt)
 
   fixed_from : (o : Op) → (at p n).op ≡ o → Valid p n (fixed_by p (at p n) o)
-  fixed_from Constant e = tt
-  fixed_from Input e = tt
-  fixed_from Add e = tt
   fixed_from Subtract e =
       let f : ℕ → ℕ → ℕ = λ x y. (x + word - y) % word in
       equal_valid f (two p n s i Subtract e f refl refl refl (λ l w x y z. refl)) (λ x. omega arith)
@@ -174,13 +149,8 @@ module _ (p : Program) (n : ℕ) (s : Sound p) (i : In n p.order) where
       let f : ℕ → ℕ → ℕ = λ x y. (x * y) % word in
       zero_valid f (two p n s i Multiply e f refl refl refl (λ l w x y z. refl)) (λ x. omega arith) (λ x. omega arith)
   fixed_from And e = zero_valid bit_and (two p n s i And e bit_and refl refl refl (λ l w x y z. refl)) (λ x. and_zero_r x) (λ x. and_zero_l x)
-  fixed_from Or e = tt
   fixed_from Xor e = equal_valid bit_xor (two p n s i Xor e bit_xor refl refl refl (λ l w x y z. refl)) (λ x. xor_self x)
-  fixed_from Less e = tt
-  fixed_from Equal e = tt
-  fixed_from Pick e = tt
-  fixed_from Shift e = tt
-  fixed_from Out e = tt
+  fixed_from o e = tt
 
   pub fixed_valid : Valid p n (by_op fixed_by p n)
   fixed_valid = fixed_from (at p n).op refl
@@ -212,20 +182,9 @@ module _ (p : Program) (n : ℕ) (s : Sound p) (i : In n p.order) where
       (λ w v u f. t.means w v u f ∙ ap (λ x. (v a * x) % word) (constant_is p n b t.first_b h.0 w v u f ∙ h.1))
 
   power_from : (o : Op) → (at p n).op ≡ o → Valid p n (power_by p (at p n) o)
-  power_from Constant e = tt
-  power_from Input e = tt
-  power_from Add e = tt
-  power_from Subtract e = tt
   power_from Multiply e =
       shifted (two p n s i Multiply e (λ x y. (x * y) % word) refl refl refl (λ l w x y z. refl)) (log p b) (log p a) refl refl
-  power_from And e = tt
-  power_from Or e = tt
-  power_from Xor e = tt
-  power_from Less e = tt
-  power_from Equal e = tt
-  power_from Pick e = tt
-  power_from Shift e = tt
-  power_from Out e = tt
+  power_from o e = tt
 
   pub power_valid : Valid p n (by_op power_by p n)
   power_valid = power_from (at p n).op refl

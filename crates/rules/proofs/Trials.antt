@@ -3,7 +3,7 @@ use Rattle.std.proofs.Common.{◌≡◌, ℕ, zero, suc, ◌+◌, ◌<◌, ◌�
 use Rattle.std.proofs.lemmas.Bool.{ltb-true, ltb-false, cond_both}
 use Rattle.program.specs.Programs.{Program, In}
 use Rattle.runs.specs.Prices.{Costing, price}
-use Rattle.rules.specs.Rules.{Change, nothing, vanish, drop_for, become, apply, rules}
+use Rattle.rules.specs.Rules.{Change, nothing, vanish, drop_for, apply, rules}
 use Rattle.rules.specs.Trials.{choose, choice, trial, tally}
 use Rattle.rules.specs.Laws.{Sound, SameOutputs, Listed, Step, Chain, Better, Tried, TrialLaw, TrialFirst}
 use Rattle.rules.proofs.Removals.{in_cut}
@@ -101,10 +101,9 @@ trial_chain c p q n k h i =
 
 -- what stands elsewhere stays
 pub stays : (p : Program) (n k : ℕ) (change : Change) → In k p.order → (k ≡ n → ⊥) → In k (apply p n change).order
-stays p n k nothing i d = i
 stays p n k vanish i d = in_cut n k p.order i d
 stays p n k (drop_for y) i d = in_cut n k p.order i d
-stays p n k (become r) i d = i
+stays p n k change i d = i
 
 pub trial_law : TrialLaw
 trial_law c p n s i =

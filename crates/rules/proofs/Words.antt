@@ -1,8 +1,8 @@
 -- Every value of a sound program is a word.
-use Rattle.std.proofs.Common.{◌≡◌, ℕ, ◌+◌, ◌-◌, ◌*◌, ◌^◌, ◌<◌, Bool, true, false, cond, eqb, ltb, List, length, get_or, sym, refl, subst, ⊎_elim, mod-lt, lit<}
+use Rattle.std.proofs.Common.{◌≡◌, ℕ, ◌+◌, ◌-◌, ◌*◌, ◌^◌, ◌<◌, Bool, true, false, eqb, ltb, List, length, get_or, sym, refl, subst, ⊎_elim, mod-lt, lit<}
 use mathlib.Core.Bool.{false≢true}
 use lib.Bits.{and_lt, or_lt, xor_lt}
-use Rattle.std.proofs.lemmas.Bool.{cases_lt}
+use Rattle.std.proofs.lemmas.Bool.{cases_lt, cond_both}
 use Rattle.std.proofs.lemmas.List.{get_or_past}
 use Rattle.std.proofs.ByRecursion.{All-get_or}
 use Rattle.ir.specs.declared.operation.Op.{Op}
@@ -15,10 +15,6 @@ use Rattle.runs.specs.Runs.{arg, value, Fits}
 use Rattle.runs.proofs.Valuations.{along}
 use Rattle.rules.specs.Rules.{Inputs, constant?}
 use Rattle.rules.specs.Laws.{Sound}
-
-word_cond : (t : Bool) (x y : ℕ) → x < word → y < word → cond t x y < word
-word_cond true x y a b = a
-word_cond false x y a b = b
 
 input_word : (w : List ℕ) → Inputs w → (k : ℕ) → get_or w k 0 < word
 input_word w i k =
@@ -36,9 +32,9 @@ value_word Multiply l w x y z h i a b c = mod-lt (x * y) (lit< tt)
 value_word And l w x y z h i a b c = and_lt 32 x y a b
 value_word Or l w x y z h i a b c = or_lt 32 x y a b
 value_word Xor l w x y z h i a b c = xor_lt 32 x y a b
-value_word Less l w x y z h i a b c = word_cond (ltb x y) 1 0 (lit< tt) (lit< tt)
-value_word Equal l w x y z h i a b c = word_cond (eqb x y) 1 0 (lit< tt) (lit< tt)
-value_word Pick l w x y z h i a b c = word_cond (eqb x 0) z y c b
+value_word Less l w x y z h i a b c = cond_both (ltb x y) 1 0 (λ r. r < word) (λ e. lit< tt) (λ e. lit< tt)
+value_word Equal l w x y z h i a b c = cond_both (eqb x y) 1 0 (λ r. r < word) (λ e. lit< tt) (λ e. lit< tt)
+value_word Pick l w x y z h i a b c = cond_both (eqb x 0) z y (λ r. r < word) (λ e. c) (λ e. b)
 value_word Shift l w x y z h i a b c = mod-lt (x * 2 ^ l) (lit< tt)
 value_word Out l w x y z h i a b c = a
 
@@ -66,18 +62,7 @@ words p s w v i f =
 -- no other operation is a constant
 only_constant : (o : Op) → constant? o ≡ true → o ≡ Constant
 only_constant Constant e = refl
-only_constant Input e = absurd (false≢true e)
-only_constant Add e = absurd (false≢true e)
-only_constant Subtract e = absurd (false≢true e)
-only_constant Multiply e = absurd (false≢true e)
-only_constant And e = absurd (false≢true e)
-only_constant Or e = absurd (false≢true e)
-only_constant Xor e = absurd (false≢true e)
-only_constant Less e = absurd (false≢true e)
-only_constant Equal e = absurd (false≢true e)
-only_constant Pick e = absurd (false≢true e)
-only_constant Shift e = absurd (false≢true e)
-only_constant Out e = absurd (false≢true e)
+only_constant o e = absurd (false≢true e)
 
 -- a constant's value is its literal
 pub constant_value : (o : Op) (l : ℕ) (w : List ℕ) (x y z : ℕ) → constant? o ≡ true → value_of o l w x y z ≡ l
@@ -89,16 +74,5 @@ constant_word o l e h = subst (λ q. l < limit q) (only_constant o e) h
 -- an operation with operands reads no input
 pub value_closed :
     (o : Op) (l : ℕ) (w u : List ℕ) (x y z : ℕ) → takes 0 o ≡ true → value_of o l w x y z ≡ value_of o l u x y z
-value_closed Constant l w u x y z e = refl
 value_closed Input l w u x y z e = absurd (false≢true e)
-value_closed Add l w u x y z e = refl
-value_closed Subtract l w u x y z e = refl
-value_closed Multiply l w u x y z e = refl
-value_closed And l w u x y z e = refl
-value_closed Or l w u x y z e = refl
-value_closed Xor l w u x y z e = refl
-value_closed Less l w u x y z e = refl
-value_closed Equal l w u x y z e = refl
-value_closed Pick l w u x y z e = refl
-value_closed Shift l w u x y z e = refl
-value_closed Out l w u x y z e = refl
+value_closed o l w u x y z e = refl

@@ -1,23 +1,54 @@
--- The changes that the code answers, as the changes of the rules.
-use Rattle.std.specs.Prelude.{◌≡◌, ℕ, zero, suc, ◌+◌, ◌≤◌, Bool, cond, List, [], ◌∷◌, Some, None, Option}
+-- The changes that the code answers, as the changes of the rules, and the rules by their numbers.
+use Rattle.std.specs.Prelude.{◌≡◌, ℕ, zero, suc, ◌+◌, ◌≤◌, cond, List, [], ◌∷◌, Some, None, Ok, Err, Option, Result, slice_index_or}
 use Rattle.ir.specs.Instructions.{plain}
 use Rattle.program.specs.Programs.{Program, at}
-use Rattle.runs.specs.Runs.{arg}
 use Rattle.rules.specs.declared.change.Change.{Change}
-use Rattle.rules.specs.declared.change.Change.TheVariants.{Nothing, Vanish, DropFor, Become}
-use Rattle.rules.specs.Rules.{Change as Meant, nothing, vanish, drop_for, become, known, dead, fold, by_op, same_by, fixed_by, twin, power_by, rules}
+use Rattle.rules.specs.declared.change.Change.TheVariants.{Vanish, DropFor, Become}
+use Rattle.rules.specs.declared.numbered.Rule.{Rule}
+use Rattle.rules.specs.declared.numbered.Rule.TheVariants.{Dead, Fold, Same, Fixed, Twin, Power}
+use Rattle.rules.specs.declared.numbered.UnknownRule.{UnknownRule}
+use Rattle.rules.specs.Rules.{Change as Meant, nothing, vanish, drop_for, become, constant?, dead, fold, by_op, same_by, fixed_by, twin, power_by, rules}
 use Rattle.rules.specs.Laws.{Listed}
 
 -- the change that an answer means
-abbrev pub change_of : Change → Meant
-change_of Nothing = nothing
-change_of Vanish = vanish
-change_of (DropFor y) = drop_for y
-change_of (Become what) = become (plain what)
+abbrev pub change_of : Option Change → Meant
+change_of None = nothing
+change_of (Some Vanish) = vanish
+change_of (Some (DropFor y)) = drop_for y
+change_of (Some (Become what)) = become (plain what)
+
+-- the word of a number that is a constant
+abbrev pub constant_at : Program → ℕ → Option ℕ
+constant_at p m = cond (constant? (at p m).op) (Some (at p m).literal) None
 
 -- what is read of an operand that is absent or a constant
-abbrev pub known_literal : Program → Bool → ℕ → Option ℕ
-known_literal p present m = cond (known p present m) (Some (arg present (λ k. (at p k).literal) m)) None
+abbrev pub known_literal : Program → Option ℕ → Option ℕ
+known_literal p None = Some 0
+known_literal p (Some m) = constant_at p m
+
+-- a number above 0, and none for 0
+abbrev pub unless_zero : ℕ → Option ℕ
+unless_zero zero = None
+unless_zero (suc k) = Some (suc k)
+
+-- the change of a rule at n
+abbrev pub change_by : Rule → Program → ℕ → Meant
+change_by Dead p n = dead p n
+change_by Fold p n = fold p n
+change_by Same p n = by_op same_by p n
+change_by Fixed p n = by_op fixed_by p n
+change_by Twin p n = twin p n
+change_by Power p n = by_op power_by p n
+
+-- the rule with a number, 1 to 6; no other number has one
+abbrev pub rule_of : ℕ → Option Rule
+rule_of number =
+    slice_index_or (None ∷ Some Dead ∷ Some Fold ∷ Some Same ∷ Some Fixed ∷ Some Twin ∷ Some Power ∷ []) number None
+
+-- the result is the rule with the number; one that no rule has is handed back
+abbrev pub Names : ℕ → Result Rule UnknownRule → Type 0
+Names number (Ok rule) = rule_of number ≡ Some rule
+Names number (Err e) = (rule_of number ≡ None) × (e.number ≡ number)
 
 -- the change at n of the rule with a number, and nothing where no rule has it
 abbrev pub rule_at : Program → ℕ → ℕ → Meant

@@ -111,19 +111,14 @@ neutral p x a b = cond (is p b x) (drop_for a) (cond (is p a x) (drop_for b) not
 
 -- 3, by operation: what has the value of an operand gives way to it
 abbrev pub same_by : Program → Instr → Op → Change
-same_by p i Constant = nothing
-same_by p i Input = nothing
 same_by p i Add = neutral p 0 i.a i.b
 same_by p i Subtract = cond (is p i.b 0) (drop_for i.a) nothing
 same_by p i Multiply = neutral p 1 i.a i.b
-same_by p i And = nothing
 same_by p i Or = neutral p 0 i.a i.b
 same_by p i Xor = neutral p 0 i.a i.b
-same_by p i Less = nothing
-same_by p i Equal = nothing
 same_by p i Pick = cond (constant? (at p i.a).op) (drop_for (cond ((at p i.a).literal == 0) i.c i.b)) nothing
 same_by p i Shift = cond (i.literal == 0) (drop_for i.a) nothing
-same_by p i Out = nothing
+same_by p i op = nothing
 
 -- the constant 0 where a test holds
 abbrev pub zero_if : Bool → Change
@@ -131,19 +126,11 @@ zero_if t = cond t (become (constant_of 0)) nothing
 
 -- 4, by operation: what is always 0 becomes the constant 0
 abbrev pub fixed_by : Program → Instr → Op → Change
-fixed_by p i Constant = nothing
-fixed_by p i Input = nothing
-fixed_by p i Add = nothing
 fixed_by p i Subtract = zero_if (i.a == i.b)
 fixed_by p i Multiply = zero_if (is p i.b 0 || is p i.a 0)
 fixed_by p i And = zero_if (is p i.b 0 || is p i.a 0)
-fixed_by p i Or = nothing
 fixed_by p i Xor = zero_if (i.a == i.b)
-fixed_by p i Less = nothing
-fixed_by p i Equal = nothing
-fixed_by p i Pick = nothing
-fixed_by p i Shift = nothing
-fixed_by p i Out = nothing
+fixed_by p i op = nothing
 
 -- the first number before n in a list that has the record of n
 abbrev pub twin_in : Program → ℕ → List ℕ → Change
@@ -175,19 +162,8 @@ shift_by a b (suc k) j = become (shift_of a (suc k))
 
 -- 6, by operation: a product with a power of 2 becomes a shift
 abbrev pub power_by : Program → Instr → Op → Change
-power_by p i Constant = nothing
-power_by p i Input = nothing
-power_by p i Add = nothing
-power_by p i Subtract = nothing
 power_by p i Multiply = shift_by i.a i.b (log p i.b) (log p i.a)
-power_by p i And = nothing
-power_by p i Or = nothing
-power_by p i Xor = nothing
-power_by p i Less = nothing
-power_by p i Equal = nothing
-power_by p i Pick = nothing
-power_by p i Shift = nothing
-power_by p i Out = nothing
+power_by p i op = nothing
 
 -- a rule by operation, at a number
 abbrev pub by_op : (Program → Instr → Op → Change) → Program → ℕ → Change

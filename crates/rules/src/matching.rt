@@ -1,136 +1,89 @@
-// Rules 1, 3 and 4, over any store: which change each makes at a number.
-ghost use Rattle.std.specs.Prelude.{◌≡◌, if◌then◌else◌};
+// Rules 1, 3 and 4, over any store: which change each makes at a number, if any.
+ghost use Rattle.std.specs.Prelude.{◌≡◌};
 ghost use Rattle.ir.specs.Instructions.{plain};
-ghost use Rattle.program.specs.Uses.{uses, unused};
-ghost use Rattle.runs.specs.Runs.{out?};
-ghost use Rattle.rules.specs.Rules.{nothing, drop_for, constant?, is as model_is, by_op, dead as model_dead, zero_if, fixed_by, neutral as model_neutral, same_by};
-ghost use Rattle.rules.specs.Changes.{change_of};
+ghost use Rattle.rules.specs.Rules.{is, by_op, dead as model_dead, zero_if, fixed_by, neutral as model_neutral, same_by};
+ghost use Rattle.rules.specs.Changes.{change_of, constant_at};
 
 use crate::change::Change;
 use ir::instruction::Record;
 use ir::operation::Op;
-use program::reading::record_at;
+use program::reading::{first_use, record_at};
 use program::store::Store;
-
-pub(crate) fn is_out(what: Record) -> bool
-    ensures { result ≡ out? what.op }
-{
-    matches!(what.op, Op::Out)
-}
-
-pub(crate) fn is_constant(what: Record) -> bool
-    ensures { result ≡ constant? what.op }
-{
-    matches!(what.op, Op::Constant)
-}
-
-// Whether nothing reads a number. A free one is no operand.
-fn is_unused<S: Store>(store: &mut S, n: u32) -> bool
-    ensures answer { result ≡ unused (uses (S.program store.old) n) }
-    ensures after { S.program store.new ≡ S.program store.old }
-{
-    match store.next_use(n, None) {
-        Ok(found) => found.is_none(),
-        Err(_) => true,
-    }
-}
+use runs::running::is_out;
 
 // Rule 1: what is no out and has no uses goes.
-pub fn dead<S: Store>(store: &mut S, n: u32) -> Change
-    ensures answer { change_of result ≡ model_dead (S.program store.old) n }
-    ensures after { S.program store.new ≡ S.program store.old }
+pub fn dead<S: Store>(store: &S, n: u32) -> Option<Change>
+    ensures { change_of result ≡ model_dead (S.program store.now) n }
 {
-    let what = record_at(store, n);
-    if is_out(what) {
-        return Change::Nothing;
+    if is_out(record_at(store, n)) {
+        return None;
     }
-    if is_unused(store, n) {
-        Change::Vanish
-    } else {
-        Change::Nothing
-    }
+    first_use(store, n).is_none().then_some(Change::Vanish)
+}
+
+// The word of a number that is a constant.
+pub(crate) fn constant_at<S: Store>(store: &S, m: u32) -> Option<u32>
+    ensures { result ≡ constant_at (S.program store.now) m }
+{
+    let what = record_at(store, m);
+    (what.op == Op::Constant).then_some(what.literal)
 }
 
 // Whether a number is the constant x.
-fn is<S: Store>(store: &mut S, m: u32, x: u32) -> bool
-    ensures answer { result ≡ model_is (S.program store.old) m x }
-    ensures after { S.program store.new ≡ S.program store.old }
+fn is_constant<S: Store>(store: &S, m: u32, x: u32) -> bool
+    ensures { result ≡ is (S.program store.now) m x }
 {
-    let what = record_at(store, m);
-    is_constant(what) & (what.literal == x)
-}
-
-fn drop_if(test: bool, y: u32) -> Change
-    ensures { change_of result ≡ (if test then drop_for y else nothing) }
-{
-    if test {
-        Change::DropFor(y)
-    } else {
-        Change::Nothing
-    }
+    constant_at(store, m) == Some(x)
 }
 
 // The other operand, where one of two is the constant x; b is looked at first.
-fn neutral<S: Store>(store: &mut S, x: u32, a: u32, b: u32) -> Change
-    ensures answer { change_of result ≡ model_neutral (S.program store.old) x a b }
-    ensures after { S.program store.new ≡ S.program store.old }
+fn neutral<S: Store>(store: &S, x: u32, a: u32, b: u32) -> Option<Change>
+    ensures { change_of result ≡ model_neutral (S.program store.now) x a b }
 {
-    if is(store, b, x) {
-        return Change::DropFor(a);
+    if is_constant(store, b, x) {
+        return Some(Change::DropFor(a));
     }
-    if is(store, a, x) {
-        return Change::DropFor(b);
-    }
-    Change::Nothing
+    is_constant(store, a, x).then_some(Change::DropFor(b))
 }
 
 // The operand that a pick takes, where its test is a constant.
-fn picked<S: Store>(store: &mut S, what: Record) -> Change
-    ensures answer { change_of result ≡ same_by (S.program store.old) (plain what) Op.Pick }
-    ensures after { S.program store.new ≡ S.program store.old }
+fn picked<S: Store>(store: &S, what: Record) -> Option<Change>
+    ensures { change_of result ≡ same_by (S.program store.now) (plain what) Op.Pick }
 {
-    let test = record_at(store, what.a);
-    if !is_constant(test) {
-        return Change::Nothing;
-    }
-    Change::DropFor(if test.literal == 0 { what.c } else { what.b })
+    let test = constant_at(store, what.a)?;
+    Some(Change::DropFor(if test == 0 { what.c } else { what.b }))
 }
 
 // Rule 3: what has the value of an operand gives way to it.
-pub fn same<S: Store>(store: &mut S, n: u32) -> Change
-    ensures answer { change_of result ≡ by_op same_by (S.program store.old) n }
-    ensures after { S.program store.new ≡ S.program store.old }
+pub fn same<S: Store>(store: &S, n: u32) -> Option<Change>
+    ensures { change_of result ≡ by_op same_by (S.program store.now) n }
 {
     let what = record_at(store, n);
     match what.op {
         Op::Add | Op::Or | Op::Xor => neutral(store, 0, what.a, what.b),
         Op::Multiply => neutral(store, 1, what.a, what.b),
-        Op::Subtract => drop_if(is(store, what.b, 0), what.a),
+        Op::Subtract => is_constant(store, what.b, 0).then_some(Change::DropFor(what.a)),
         Op::Pick => picked(store, what),
-        Op::Shift => drop_if(what.literal == 0, what.a),
-        _ => Change::Nothing,
+        Op::Shift => (what.literal == 0).then_some(Change::DropFor(what.a)),
+        _ => None,
     }
 }
 
-fn zero_if(test: bool) -> Change
-    ensures { change_of result ≡ zero_if test }
+// Whether the operands show that the value of the instruction is always 0.
+fn is_zero<S: Store>(store: &S, what: Record) -> bool
+    ensures { zero_if result ≡ fixed_by (S.program store.now) (plain what) what.op }
 {
-    if test {
-        Change::Become(Record::constant(0))
-    } else {
-        Change::Nothing
+    match what.op {
+        Op::Subtract | Op::Xor => what.a == what.b,
+        Op::Multiply | Op::And => is_constant(store, what.b, 0) || is_constant(store, what.a, 0),
+        _ => false,
     }
 }
 
 // Rule 4: what is always 0 becomes the constant 0.
-pub fn fixed<S: Store>(store: &mut S, n: u32) -> Change
-    ensures answer { change_of result ≡ by_op fixed_by (S.program store.old) n }
-    ensures after { S.program store.new ≡ S.program store.old }
+pub fn fixed<S: Store>(store: &S, n: u32) -> Option<Change>
+    ensures { change_of result ≡ by_op fixed_by (S.program store.now) n }
 {
     let what = record_at(store, n);
-    match what.op {
-        Op::Subtract | Op::Xor => zero_if(what.a == what.b),
-        Op::Multiply | Op::And => zero_if(is(store, what.b, 0) | is(store, what.a, 0)),
-        _ => Change::Nothing,
-    }
+    is_zero(store, what).then_some(Change::Become(Record::constant(0)))
 }

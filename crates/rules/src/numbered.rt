@@ -1,6 +1,6 @@
-// The change of a rule by its number, over any store.
+// The six rules and their numbers, and the change that each makes at a number, over any store.
 ghost use Rattle.std.specs.Prelude.{◌≡◌};
-ghost use Rattle.rules.specs.Changes.{change_of, rule_at};
+ghost use Rattle.rules.specs.Changes.{change_of, change_by, rule_at, Names};
 
 use crate::change::Change;
 use crate::folds::fold;
@@ -9,18 +9,61 @@ use crate::powers::power;
 use crate::twins::twin;
 use program::store::Store;
 
-// The change that a rule, 1 to 6, makes at a number; there is no other rule.
-pub fn change_at<S: Store>(store: &mut S, rule: u32, n: u32) -> Change
-    ensures answer { change_of result ≡ rule_at (S.program store.old) rule n }
-    ensures after { S.program store.new ≡ S.program store.old }
-{
-    match rule {
-        1 => dead(store, n),
-        2 => fold(store, n),
-        3 => same(store, n),
-        4 => fixed(store, n),
-        5 => twin(store, n),
-        6 => power(store, n),
-        _ => Change::Nothing,
+// The rules in the order in which they are tried. Their numbers are the positions in this list, from 1.
+#[derive(Clone, Copy, PartialEq, Eq)]
+pub enum Rule {
+    Dead,
+    Fold,
+    Same,
+    Fixed,
+    Twin,
+    Power,
+}
+
+// No rule has this number.
+#[derive(Clone, Copy, PartialEq, Eq)]
+pub struct UnknownRule {
+    pub number: u32,
+}
+
+// The rule of a number.
+impl TryFrom<u32> for Rule {
+    type Error = UnknownRule;
+
+    ghost try_from_gives = { Names };
+
+    fn try_from(number: u32) -> Result<Rule, UnknownRule> {
+        match number {
+            1 => Ok(Rule::Dead),
+            2 => Ok(Rule::Fold),
+            3 => Ok(Rule::Same),
+            4 => Ok(Rule::Fixed),
+            5 => Ok(Rule::Twin),
+            6 => Ok(Rule::Power),
+            _ => Err(UnknownRule { number }),
+        }
     }
+}
+
+impl Rule {
+    // The change that the rule makes at a number.
+    pub fn change_at<S: Store>(self, store: &S, n: u32) -> Option<Change>
+        ensures { change_of result ≡ change_by self (S.program store.now) n }
+    {
+        match self {
+            Rule::Dead => dead(store, n),
+            Rule::Fold => fold(store, n),
+            Rule::Same => same(store, n),
+            Rule::Fixed => fixed(store, n),
+            Rule::Twin => twin(store, n),
+            Rule::Power => power(store, n),
+        }
+    }
+}
+
+// The change that the rule of a number, 1 to 6, makes at n; there is no other rule.
+pub fn change_at<S: Store>(store: &S, rule: u32, n: u32) -> Option<Change>
+    ensures { change_of result ≡ rule_at (S.program store.now) rule n }
+{
+    Rule::try_from(rule).ok()?.change_at(store, n)
 }

@@ -4,6 +4,7 @@ use Rattle.std.specs.Option.{option_or}
 use Rattle.std.proofs.lemmas.Bool.{cond-true, cond-false, lt-ltb, le-ltb, ltb-false, eq-eqb, ne_eqb}
 use Rattle.program.specs.Programs.{Program, at, size}
 use Rattle.program.specs.Proper.{Proper}
+use Rattle.program.proofs.Faults.{or_right_none}
 use Rattle.program.proofs.Accepting.{busy_inside}
 use Rattle.runs.specs.declared.fault.RunFault.{RunFault}
 use Rattle.runs.specs.declared.fault.RunFault.TheVariants.{ScratchTooShort, InputCount, OutputTooShort}
@@ -18,13 +19,13 @@ too_short p m n e l =
     let f : scratch_fault p m ≡ Some (ScratchTooShort (size p)) = cond-true (ltb m (size p)) (Some (ScratchTooShort (size p))) None (lt-ltb m (size p) (omega arith)) in
     ap (λ x. Err (ScratchTooShort x)) e ∙ sym (ap (λ o. checked (option_or o (ill_formed (broken p)))) f)
 
--- what the marks find in q, which is p as the size reading left it
+-- what the marks find
 pub form_found :
-    (p q : Program) → q ≡ p → Proper p → (m : ℕ) → size p ≤ m → (words : List ℕ) → words ≡ zeros m → (o : Option ℕ)
-    → o ≡ broken_words (at q) words q.order → checked (ill_formed o) ≡ checked (price_fault p m)
-form_found p q same t m l words z o e =
+    (p : Program) → Proper p → (m : ℕ) → size p ≤ m → (words : List ℕ) → words ≡ zeros m → (o : Option ℕ)
+    → o ≡ broken_words (at p) words p.order → checked (ill_formed o) ≡ checked (price_fault p m)
+form_found p t m l words z o e =
     let found : o ≡ broken p
-    = e ∙ ap (λ x. broken_words (at x) words x.order) same ∙ ap (λ w. broken_words (at p) w p.order) z
+    = e ∙ ap (λ w. broken_words (at p) w p.order) z
     ∙ broken_law p m (λ k i. let h = busy_inside p k (t.placed k i) in omega arith) in
     let f : scratch_fault p m ≡ None = cond-false (ltb m (size p)) (Some (ScratchTooShort (size p))) None (le-ltb m (size p) l) in
     ap (λ x. checked (ill_formed x)) found ∙ sym (ap (λ x. checked (option_or x (ill_formed (broken p)))) f)
@@ -47,42 +48,63 @@ none_fits p m e = by_test (ltb m (size p)) refl e
 
 -- ---- the faults of a run, one after another
 
-module _ (p : Program) (words : ℕ) (inputs old : List ℕ) where
+module _ (p : Program) (words : ℕ) (inputs : List ℕ) (room : ℕ) where
   abbrev fault : Option RunFault
-  fault = run_fault p words inputs (length old)
+  fault = run_fault p words inputs room
 
   pub refused_by_form : (f : RunFault) → price_fault p words ≡ Some f → fault ≡ Some f
-  refused_by_form f e = ap (λ o. option_or o (option_or (input_fault inputs) (output_fault p (length old)))) e
+  refused_by_form f e = ap (λ o. option_or o (option_or (input_fault inputs) (output_fault p room))) e
 
   module _ (formed : price_fault p words ≡ None) where
-    past_form : fault ≡ option_or (input_fault inputs) (output_fault p (length old))
-    past_form = ap (λ o. option_or o (option_or (input_fault inputs) (output_fault p (length old)))) formed
+    past_form : fault ≡ option_or (input_fault inputs) (output_fault p room)
+    past_form = ap (λ o. option_or o (option_or (input_fault inputs) (output_fault p room))) formed
 
     pub refused_by_inputs : (length inputs ≡ 16 → ⊥) → fault ≡ Some (InputCount (length inputs))
     refused_by_inputs d =
         past_form
-        ∙ ap (λ o. option_or o (output_fault p (length old)))
+        ∙ ap (λ o. option_or o (output_fault p room))
         (cond-false (eqb (length inputs) 16) None (Some (InputCount (length inputs))) (ne_eqb (length inputs) 16 d))
 
     module _ (sixteen : length inputs ≡ 16) where
-      past_inputs : fault ≡ output_fault p (length old)
+      past_inputs : fault ≡ output_fault p room
       past_inputs =
           past_form
-          ∙ ap (λ o. option_or o (output_fault p (length old)))
+          ∙ ap (λ o. option_or o (output_fault p room))
           (cond-true (eqb (length inputs) 16) None (Some (InputCount (length inputs))) (eq-eqb (length inputs) 16 sixteen))
 
-      pub refused_by_output : (n : ℕ) → n ≡ outs p → length old < 2 * n → fault ≡ Some (OutputTooShort (2 * n))
+      pub refused_by_output : (n : ℕ) → n ≡ outs p → room < 2 * n → fault ≡ Some (OutputTooShort (2 * n))
       refused_by_output n e l =
           past_inputs
-          ∙ cond-true (ltb (length old) (2 * outs p)) (Some (OutputTooShort (2 * outs p))) None (lt-ltb (length old) (2 * outs p) (omega arith))
+          ∙ cond-true (ltb room (2 * outs p)) (Some (OutputTooShort (2 * outs p))) None (lt-ltb room (2 * outs p) (omega arith))
           ∙ ap (λ k. Some (OutputTooShort (2 * k))) (sym e)
 
-      pub accepted : 2 * outs p ≤ length old → fault ≡ None
-      accepted l = past_inputs ∙ cond-false (ltb (length old) (2 * outs p)) (Some (OutputTooShort (2 * outs p))) None (le-ltb (length old) (2 * outs p) l)
+      pub accepted : 2 * outs p ≤ room → fault ≡ None
+      accepted l = past_inputs ∙ cond-false (ltb room (2 * outs p)) (Some (OutputTooShort (2 * outs p))) None (le-ltb room (2 * outs p) l)
 
-  -- a fault decides the answer and leaves the output memory
-  pub refused_answer : (f : RunFault) → fault ≡ Some f → Err f ≡ run_answer p words inputs (length old)
+  -- a fault decides the answer
+  pub refused_answer : (f : RunFault) → fault ≡ Some f → Err f ≡ run_answer p words inputs room
   refused_answer f e = sym (ap (λ o. counted o (outs p)) e)
 
-  pub refused_output : (f : RunFault) → fault ≡ Some f → old ≡ after_run p words inputs old
-  refused_output f e = sym (ap (λ o. written o (in_words (outputs p inputs)) old) e)
+-- ---- what the answer of a run says of its fault
+
+pub counted_some : (o : Option RunFault) (x : ℕ) (f : RunFault) → Err f ≡ counted o x → o ≡ Some f
+counted_some None x f e = let z : ◌≡◌ {A = ℕ} 0 1 = cc in absurd (omega arith)
+counted_some (Some g) x f e = cc
+
+pub counted_none : (o : Option RunFault) (x y : ℕ) → Ok y ≡ counted o x → (o ≡ None) × (y ≡ x)
+counted_none None x y e = (refl, cc)
+counted_none (Some g) x y e = let z : ◌≡◌ {A = ℕ} 0 1 = cc in absurd (omega arith)
+
+-- a fault leaves the output memory
+pub refused_output : (p : Program) (words : ℕ) (inputs old : List ℕ) (f : RunFault) → run_fault p words inputs (length old) ≡ Some f → old ≡ after_run p words inputs old
+refused_output p words inputs old f e = sym (ap (λ o. written o (in_words (outputs p inputs)) old) e)
+
+-- with no fault there is room for every out
+pub none_room : (p : Program) (words : ℕ) (inputs : List ℕ) (room : ℕ) → run_fault p words inputs room ≡ None → 2 * outs p ≤ room
+none_room p words inputs room e =
+    by_test (ltb room (2 * outs p)) refl
+    (or_right_none (input_fault inputs) (output_fault p room) (or_right_none (price_fault p words) _ e))
+  where
+    by_test : (b : Bool) → ltb room (2 * outs p) ≡ b → cond b (Some (OutputTooShort (2 * outs p))) None ≡ None → 2 * outs p ≤ room
+    by_test true t f = let z : ◌≡◌ {A = ℕ} 0 1 = cc in absurd (omega arith)
+    by_test false t f = ltb-false room (2 * outs p) t

@@ -29,13 +29,12 @@ count_bound of (n ∷ ns) = let a = one_or_none (out? (of n).op) in let b = coun
 pub few_outs : (p : Program) → Proper p → outs p ≤ 1024
 few_outs p t = let a = count_bound (at p) p.order in let b = few_placed p t in let c = t.few in omega arith
 
--- over zero words the run is the program's; q is p as a check left it
+-- over zero words the run is the program's
 pub run_whole :
-    (p q : Program) → q ≡ p → Proper p → (w words : List ℕ) (m : ℕ) → size p ≤ m → words ≡ zeros m
-    → run_words (at q) w words q.order ≡ outputs p w
-run_whole p q same t w words m h z =
-    ap (λ x. run_words (at x) w words x.order) same
-    ∙ ap (λ l. run_words (at p) w l p.order) z
+    (p : Program) → Proper p → (w words : List ℕ) (m : ℕ) → size p ≤ m → words ≡ zeros m
+    → run_words (at p) w words p.order ≡ outputs p w
+run_whole p t w words m h z =
+    ap (λ l. run_words (at p) w l p.order) z
     ∙ run_law (at p) w (zeros m) p.order (λ k i. let l = busy_inside p k (t.placed k i) in let e : length (zeros m) ≡ m = length-replicate m 0 in omega arith)
     ∙ ap (λ v. run_from (at p) w v p.order) (fun_ext (zero_word m))
 

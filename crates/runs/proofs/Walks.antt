@@ -1,5 +1,5 @@
 -- A walk along the order, from the first number by the next one each time.
-use Rattle.std.proofs.Common.{◌≡◌, ℕ, ◌+◌, ◌<◌, List, ◌∷◌, length, drop, Some, Option, sym, ap, ◌∙◌, subst, ⊎_elim, arith}
+use Rattle.std.proofs.Common.{◌≡◌, ℕ, ◌+◌, ◌<◌, List, ◌∷◌, length, drop, Some, Option, sym, ap, ◌∙◌, subst, ⊎_elim}
 use Rattle.std.specs.List.{slice_get}
 use Rattle.std.proofs.lemmas.Option.{slice_get-get_or, slice_get_past}
 use Rattle.std.proofs.lemmas.List.{at_drop_more, drop_all}
@@ -59,11 +59,3 @@ module _ (p : Program) (t : Proper p) where
     inside = in_range n i;
     reads = r;
   }
-
--- so what is left falls; q and r are the program as the store meant it before and after
-pub falls : (p q r : Program) → q ≡ p → r ≡ p → (was is : Option ℕ) (n : ℕ) (what : Record) → Step p was is n what → length (from is r.order) < length (from was q.order)
-falls p q r e f was is n what s =
-    let l = ap length s.left in
-    let a = ap (λ x. length (from was x.order)) e in
-    let b = ap (λ x. length (from is x.order)) f in
-    omega arith

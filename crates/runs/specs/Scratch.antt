@@ -1,5 +1,5 @@
 -- Runs, prices and the test for well-formedness over a list of scratch words, one for each number.
-use Rattle.std.specs.Prelude.{ℕ, ◌+◌, ◌*◌, Bool, cond, not, ◌&&◌, ◌||◌, List, [], ◌∷◌, ◌++◌, Some, None, Option, ◌==◌, slice_index, slice_set}
+use Rattle.std.specs.Prelude.{ℕ, ◌+◌, ◌*◌, Bool, true, cond, not, ◌&&◌, ◌||◌, List, [], ◌∷◌, ◌++◌, Some, None, Option, ◌==◌, slice_index, slice_set}
 use Rattle.ir.specs.Instructions.{Instr}
 use Rattle.program.specs.Programs.{takes}
 use Rattle.runs.specs.Runs.{sent, value}
@@ -8,6 +8,11 @@ use Rattle.runs.specs.Prices.{Costing, stamp_of}
 -- the scratch word of a number
 abbrev pub word_at : List ℕ → ℕ → ℕ
 word_at words n = slice_index words n
+
+-- what is read of an operand: 0 for an absent one
+abbrev pub word_in : List ℕ → Option ℕ → ℕ
+word_in words None = 0
+word_in words (Some n) = word_at words n
 
 abbrev pub run_words : (ℕ → Instr) → List ℕ → List ℕ → List ℕ → List (ℕ × ℕ)
 run_words of inputs words [] = []
@@ -27,6 +32,11 @@ stamps_left c of words (n ∷ ns) = stamps_left c of (slice_set words n (stamp_o
 -- the operand is absent, or its word is a mark
 abbrev pub marked? : List ℕ → Bool → ℕ → Bool
 marked? words present n = not present || not (word_at words n == 0)
+
+-- the same of an operand where there is one
+abbrev pub mark_in : List ℕ → Option ℕ → Bool
+mark_in words None = true
+mark_in words (Some n) = not (word_at words n == 0)
 
 abbrev pub reads_marked : List ℕ → Instr → Bool
 reads_marked words i =

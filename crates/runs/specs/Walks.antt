@@ -3,6 +3,7 @@ use Rattle.std.specs.Prelude.{◌≡◌, ℕ, ◌<◌, List, [], ◌∷◌, drop
 use Rattle.ir.specs.declared.instruction.Record.{Record}
 use Rattle.ir.specs.Instructions.{plain}
 use Rattle.program.specs.Programs.{Program, size, at, index_of, In}
+use Rattle.program.specs.Readings.{next_of}
 
 -- what is left of the order from a number on; nothing where there is no number
 abbrev pub from : Option ℕ → List ℕ → List ℕ
@@ -25,3 +26,9 @@ pub record Step (p : Program) (was is : Option ℕ) (n : ℕ) (what : Record) : 
 abbrev pub Moved : Program → Option ℕ → Option ℕ → Option (ℕ × Record) → Type 0
 Moved p was is None = from was p.order ≡ []
 Moved p was is (Some x) = Step p was is x.0 x.1
+
+-- the number that the walk was at, with its record, and the walk is then at the number behind it; or the end of the walk
+abbrev pub Told : Program → Option ℕ → Option ℕ → Option (ℕ × Record) → Type 0
+Told p None is r = (is ≡ None) × (r ≡ None)
+Told p (Some n) is None = ⊥
+Told p (Some n) is (Some x) = (x.0 ≡ n) × (plain x.1 ≡ at p n) × (is ≡ next_of p n)

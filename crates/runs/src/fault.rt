@@ -4,7 +4,7 @@ ghost use Rattle.runs.specs.Answers.{run_report};
 
 use ir::fault::{Layer, Report};
 
-#[derive(Clone, Copy)]
+#[derive(Clone, Copy, PartialEq, Eq)]
 pub enum RunFault {
     // the words needed
     ScratchTooShort(u32),
@@ -16,26 +16,15 @@ pub enum RunFault {
     OutputTooShort(u32),
 }
 
-fn program_fault(number: u32, place: usize) -> Report
-    ensures { result ≡ record { number = number; layer = Layer.Program; place = place } }
-{
-    Report {
-        number,
-        layer: Layer::Program,
-        place,
-    }
-}
+impl From<RunFault> for Report {
+    ghost from_gives = { λ f r. r ≡ run_report f };
 
-impl RunFault {
-    // The fault's number, its layer and its place.
-    pub fn report(self) -> Report
-        ensures { result ≡ run_report self }
-    {
-        match self {
-            RunFault::ScratchTooShort(words) => program_fault(14, words as usize),
-            RunFault::IllFormed(n) => program_fault(15, n as usize),
-            RunFault::InputCount(count) => program_fault(16, count),
-            RunFault::OutputTooShort(words) => program_fault(17, words as usize),
+    fn from(fault: RunFault) -> Report {
+        match fault {
+            RunFault::ScratchTooShort(words) => Layer::Program.report(14, words as usize),
+            RunFault::IllFormed(n) => Layer::Program.report(15, n as usize),
+            RunFault::InputCount(count) => Layer::Program.report(16, count),
+            RunFault::OutputTooShort(words) => Layer::Program.report(17, words as usize),
         }
     }
 }

@@ -3,7 +3,7 @@ ghost use Rattle.std.specs.Prelude.{◌≡◌, ◌≤◌, true, length, is_ok};
 ghost use Rattle.ir.specs.Instructions.{plain};
 ghost use Rattle.program.specs.Programs.{at, size};
 ghost use Rattle.runs.specs.Answers.{price_fault, checked, zeros};
-ghost use Rattle.runs.specs.Scratch.{marked?, reads_marked, broken_words};
+ghost use Rattle.runs.specs.Scratch.{mark_in, reads_marked, broken_words};
 
 use crate::fault::RunFault;
 use crate::scratch::{clear, word_of};
@@ -11,32 +11,28 @@ use crate::walk::Cursor;
 use ir::instruction::Record;
 use program::store::Store;
 
-fn is_marked(words: &[u32], present: bool, n: u32) -> bool
-    ensures { result ≡ marked? words.now present n }
+// Whether an operand has its mark; an absent one needs none.
+fn is_marked(words: &[u32], x: Option<u32>) -> bool
+    ensures { result ≡ mark_in words.now x }
 {
-    !present | (word_of(words, true, n) != 0)
+    x.is_none() || word_of(words, x) != 0
 }
 
 // Whether each operand of the record has its mark.
 fn reads_marked(words: &[u32], what: Record) -> bool
     ensures { result ≡ reads_marked words.now (plain what) }
 {
-    let count = what.op.operands();
-    let a = is_marked(words, 0 < count, what.a);
-    let b = is_marked(words, 1 < count, what.b);
-    let c = is_marked(words, 2 < count, what.c);
-    a & (b & c)
+    let [a, b, c] = what.operands();
+    is_marked(words, a) && is_marked(words, b) && is_marked(words, c)
 }
 
 // The first placed instruction that reads one without a mark; each before it gets its mark.
-fn first_broken<S: Store>(store: &mut S, words: &mut [u32]) -> Option<u32>
-    requires { size (S.program store.old) ≤ length words.old }
-    ensures answer { result ≡ broken_words (at (S.program store.old)) words.old (S.program store.old).order }
-    ensures after { S.program store.new ≡ S.program store.old }
+fn first_broken<S: Store>(store: &S, words: &mut [u32]) -> Option<u32>
+    requires { size (S.program store.now) ≤ length words.old }
+    ensures { result ≡ broken_words (at (S.program store.now)) words.old (S.program store.now).order }
 {
     let mut cursor = Cursor::start(store);
-    while let Some(placed) = cursor.next(store) {
-        let (n, what) = placed;
+    while let Some((n, what)) = cursor.next(store) {
         if !reads_marked(words, what) {
             return Some(n);
         }
@@ -46,9 +42,8 @@ fn first_broken<S: Store>(store: &mut S, words: &mut [u32]) -> Option<u32>
 }
 
 // The words are as many as the numbers, and the program is well formed; the words are then zero.
-pub(crate) fn check_form<S: Store>(store: &mut S, words: &mut [u32]) -> Result<(), RunFault>
-    ensures answer { result ≡ checked (price_fault (S.program store.old) (length words.old)) }
-    ensures after { S.program store.new ≡ S.program store.old }
+pub(crate) fn check_form<S: Store>(store: &S, words: &mut [u32]) -> Result<(), RunFault>
+    ensures answer { result ≡ checked (price_fault (S.program store.now) (length words.old)) }
     ensures cleared { is_ok result ≡ true → words.new ≡ zeros (length words.old) }
 {
     let size = store.size();

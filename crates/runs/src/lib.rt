@@ -7,4 +7,4 @@ mod form;
 pub mod pricing;
 pub mod running;
 pub mod scratch;
-mod walk;
+pub mod walk;

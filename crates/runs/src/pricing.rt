@@ -19,24 +19,19 @@ use program::store::Store;
 fn stamp_of<M: CostModel>(words: &[u32], what: Record) -> u32
     ensures { result ≡ stamp_of M.costing (plain what) (word_at words.now) }
 {
-    let count = what.op.operands();
-    let a = word_of(words, 0 < count, what.a);
-    let b = word_of(words, 1 < count, what.b);
-    let c = word_of(words, 2 < count, what.c);
+    let [a, b, c] = what.operands().map(|x| word_of(words, x));
     M::stamp(what.op, what.literal, a, b, c)
 }
 
 // The price of the program over words that hold anything.
-pub(crate) fn walk_price<S: Store, M: CostModel>(store: &mut S, words: &mut [u32]) -> u32
-    requires { size (S.program store.old) ≤ length words.old }
-    ensures answer { result ≡ price_words M.costing (at (S.program store.old)) 0 words.old (S.program store.old).order }
-    ensures words { words.new ≡ stamps_left M.costing (at (S.program store.old)) words.old (S.program store.old).order }
-    ensures after { S.program store.new ≡ S.program store.old }
+pub(crate) fn walk_price<S: Store, M: CostModel>(store: &S, words: &mut [u32]) -> u32
+    requires { size (S.program store.now) ≤ length words.old }
+    ensures answer { result ≡ price_words M.costing (at (S.program store.now)) 0 words.old (S.program store.now).order }
+    ensures words { words.new ≡ stamps_left M.costing (at (S.program store.now)) words.old (S.program store.now).order }
 {
     let mut total = 0;
     let mut cursor = Cursor::start(store);
-    while let Some(placed) = cursor.next(store) {
-        let (n, what) = placed;
+    while let Some((n, what)) = cursor.next(store) {
         let stamp = stamp_of::<M>(words, what);
         words[n as usize] = stamp;
         total = M::total(total, stamp);
@@ -46,14 +41,10 @@ pub(crate) fn walk_price<S: Store, M: CostModel>(store: &mut S, words: &mut [u32
 
 // The price again, of a program that is known to be well formed: it is not tested for that. The words may hold anything, and hold
 // the stamps afterwards. It is refused if there are fewer words than numbers.
-pub fn price_again<S: Store, M: CostModel>(
-    store: &mut S,
-    words: &mut [u32],
-) -> Result<u32, RunFault>
-    ensures answer { result ≡ counted (scratch_fault (S.program store.old) (length words.old)) (price_words M.costing (at (S.program store.old)) 0 words.old (S.program store.old).order) }
-    ensures words { words.new ≡ either (scratch_fault (S.program store.old) (length words.old)) (stamps_left M.costing (at (S.program store.old)) words.old (S.program store.old).order) words.old }
-    ensures formed { WellFormed (S.program store.old) → size (S.program store.old) ≤ length words.old → result ≡ Ok (model_price M.costing (S.program store.old)) }
-    ensures after { S.program store.new ≡ S.program store.old }
+pub fn price_again<S: Store, M: CostModel>(store: &S, words: &mut [u32]) -> Result<u32, RunFault>
+    ensures answer { result ≡ counted (scratch_fault (S.program store.now) (length words.old)) (price_words M.costing (at (S.program store.now)) 0 words.old (S.program store.now).order) }
+    ensures words { words.new ≡ either (scratch_fault (S.program store.now) (length words.old)) (stamps_left M.costing (at (S.program store.now)) words.old (S.program store.now).order) words.old }
+    ensures formed { WellFormed (S.program store.now) → size (S.program store.now) ≤ length words.old → result ≡ Ok (model_price M.costing (S.program store.now)) }
 {
     let size = store.size();
     if words.len() < size as usize {
@@ -64,11 +55,10 @@ pub fn price_again<S: Store, M: CostModel>(
 
 // The price of the program in a store. It is refused if there are fewer scratch words than numbers, or if the program is
 // not well formed.
-pub fn price<S: Store, M: CostModel>(store: &mut S, scratch: &mut [u32]) -> Result<u32, RunFault>
-    ensures answer { result ≡ price_answer M.costing (S.program store.old) (length scratch.old) }
-    ensures after { S.program store.new ≡ S.program store.old }
+pub fn price<S: Store, M: CostModel>(store: &S, scratch: &mut [u32]) -> Result<u32, RunFault>
+    ensures answer { result ≡ price_answer M.costing (S.program store.now) (length scratch.old) }
     ensures scratch { scratch.new ≡ zeros (length scratch.old) }
-    ensures form { FormLaw (S.program store.old) }
+    ensures form { FormLaw (S.program store.now) }
 {
     let guard = Scratch(scratch);
     check_form(store, guard.0)?;

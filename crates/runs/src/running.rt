@@ -1,5 +1,5 @@
 // A run of a program: sixteen input words in, channels and values out.
-ghost use Rattle.std.specs.Prelude.{◌≡◌, ◌+◌, ◌*◌, ◌<◌, ◌≤◌, true, length};
+ghost use Rattle.std.specs.Prelude.{◌≡◌, ◌+◌, ◌*◌, ◌<◌, ◌≤◌, true, length, is_ok};
 ghost use Rattle.ir.specs.Instructions.{plain};
 ghost use Rattle.program.specs.Programs.{at, size};
 ghost use Rattle.runs.specs.Runs.{out?, value, sent, outs, RunLaw};
@@ -15,21 +15,20 @@ use ir::instruction::Record;
 use ir::operation::Op;
 use program::store::Store;
 
-fn is_out(what: Record) -> bool
+// Whether the instruction sends its value to a channel.
+pub fn is_out(what: Record) -> bool
     ensures { result ≡ out? what.op }
 {
     matches!(what.op, Op::Out)
 }
 
 // How many outs are placed.
-fn count_outs<S: Store>(store: &mut S) -> u32
-    ensures answer { result ≡ outs (S.program store.old) }
-    ensures after { S.program store.new ≡ S.program store.old }
+fn count_outs<S: Store>(store: &S) -> u32
+    ensures { result ≡ outs (S.program store.now) }
 {
     let mut count = 0;
     let mut cursor = Cursor::start(store);
-    while let Some(placed) = cursor.next(store) {
-        let (_, what) = placed;
+    while let Some((_, what)) = cursor.next(store) {
         count += u32::from(is_out(what));
     }
     count
@@ -39,10 +38,7 @@ fn count_outs<S: Store>(store: &mut S) -> u32
 fn value_of(words: &[u32], inputs: &[u32], what: Record) -> u32
     ensures { result ≡ value (plain what) (word_at words.now) inputs.now }
 {
-    let count = what.op.operands();
-    let x = word_of(words, 0 < count, what.a);
-    let y = word_of(words, 1 < count, what.b);
-    let z = word_of(words, 2 < count, what.c);
+    let [x, y, z] = what.operands().map(|x| word_of(words, x));
     what.value(inputs, x, y, z)
 }
 
@@ -61,46 +57,57 @@ fn send(what: Record, value: u32, output: &mut [u32], pairs: usize) -> usize
 }
 
 // The run over words that hold anything; the output memory has two words for each out.
-fn walk_run<S: Store>(store: &mut S, inputs: &[u32], words: &mut [u32], output: &mut [u32])
-    requires words { size (S.program store.old) ≤ length words.old }
-    requires output { 2 * length (run_words (at (S.program store.old)) inputs.now words.old (S.program store.old).order) ≤ length output.old }
-    ensures output { output.new ≡ put_pairs output.old 0 (run_words (at (S.program store.old)) inputs.now words.old (S.program store.old).order) }
-    ensures after { S.program store.new ≡ S.program store.old }
+fn walk_run<S: Store>(store: &S, inputs: &[u32], words: &mut [u32], output: &mut [u32])
+    requires words { size (S.program store.now) ≤ length words.old }
+    requires output { 2 * length (run_words (at (S.program store.now)) inputs.now words.old (S.program store.now).order) ≤ length output.old }
+    ensures { output.new ≡ put_pairs output.old 0 (run_words (at (S.program store.now)) inputs.now words.old (S.program store.now).order) }
 {
     let mut pairs = 0;
     let mut cursor = Cursor::start(store);
-    while let Some(placed) = cursor.next(store) {
-        let (n, what) = placed;
+    while let Some((n, what)) = cursor.next(store) {
         let value = value_of(words, inputs, what);
         words[n as usize] = value;
         pairs = send(what, value, output, pairs);
     }
 }
 
-// Runs the program in a store. It is refused for want of scratch words, if the program is not well formed, if there are
-// not sixteen inputs, or for want of output memory; then the output memory is as it was.
-pub fn run<S: Store>(
-    store: &mut S,
+// What has to hold before a run, by words that hold anything: so many outs there are, or why there is no run.
+fn check_run<S: Store>(
+    store: &S,
     inputs: &[u32],
-    scratch: &mut [u32],
-    output: &mut [u32],
+    words: &mut [u32],
+    room: usize,
 ) -> Result<u32, RunFault>
-    ensures answer { result ≡ run_answer (S.program store.old) (length scratch.old) inputs.now (length output.old) }
-    ensures output { output.new ≡ after_run (S.program store.old) (length scratch.old) inputs.now output.old }
-    ensures after { S.program store.new ≡ S.program store.old }
-    ensures scratch { scratch.new ≡ zeros (length scratch.old) }
-    ensures form { FormLaw (S.program store.old) }
-    ensures meaning { RunLaw (S.program store.old) inputs.now }
+    ensures answer { result ≡ run_answer (S.program store.now) (length words.old) inputs.now room }
+    ensures cleared { is_ok result ≡ true → words.new ≡ zeros (length words.old) }
 {
-    let guard = Scratch(scratch);
-    check_form(store, guard.0)?;
+    check_form(store, words)?;
     if inputs.len() != 16 {
         return Err(RunFault::InputCount(inputs.len()));
     }
     let outs = count_outs(store);
-    if output.len() < 2 * outs as usize {
+    if room < 2 * outs as usize {
         return Err(RunFault::OutputTooShort(2 * outs));
     }
+    Ok(outs)
+}
+
+// Runs the program in a store. It is refused for want of scratch words, if the program is not well formed, if there are
+// not sixteen inputs, or for want of output memory; then the output memory is as it was.
+pub fn run<S: Store>(
+    store: &S,
+    inputs: &[u32],
+    scratch: &mut [u32],
+    output: &mut [u32],
+) -> Result<u32, RunFault>
+    ensures answer { result ≡ run_answer (S.program store.now) (length scratch.old) inputs.now (length output.old) }
+    ensures output { output.new ≡ after_run (S.program store.now) (length scratch.old) inputs.now output.old }
+    ensures scratch { scratch.new ≡ zeros (length scratch.old) }
+    ensures form { FormLaw (S.program store.now) }
+    ensures meaning { RunLaw (S.program store.now) inputs.now }
+{
+    let guard = Scratch(scratch);
+    let outs = check_run(store, inputs, guard.0, output.len())?;
     walk_run(store, inputs, guard.0, output);
     Ok(outs)
 }

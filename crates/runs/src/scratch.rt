@@ -1,16 +1,13 @@
 // Scratch: words lent for one call, which come back zero on every way out of it.
 ghost use Rattle.std.specs.Prelude.{◌≡◌, length};
-ghost use Rattle.runs.specs.Runs.{arg};
 ghost use Rattle.runs.specs.Answers.{zeros};
-ghost use Rattle.runs.specs.Scratch.{word_at};
+ghost use Rattle.runs.specs.Scratch.{word_in};
 
 // Writes 0 into each word.
 pub fn clear(words: &mut [u32])
     ensures { words.new ≡ zeros (length words.old) }
 {
-    for word in words.iter_mut() {
-        *word = 0;
-    }
+    words.fill(0);
 }
 
 // The guard of the lent words: they are zero once it is let go.
@@ -26,12 +23,11 @@ impl Drop for Scratch<'_> {
 }
 
 // What is read of an operand: its word, or 0 where the operand is absent or has no word.
-pub fn word_of(words: &[u32], present: bool, n: u32) -> u32
-    ensures { result ≡ arg present (word_at words.now) n }
+pub fn word_of(words: &[u32], x: Option<u32>) -> u32
+    ensures { result ≡ word_in words.now x }
 {
-    if !present {
+    let Some(n) = x else {
         return 0;
-    }
-    let at = n as usize;
-    if at < words.len() { words[at] } else { 0 }
+    };
+    words.get(n as usize).copied().unwrap_or(0)
 }

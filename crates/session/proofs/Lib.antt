@@ -1,4 +1,5 @@
 pub mod Stacks
+pub mod Grants
 pub mod Rows
 pub mod Trails
 pub mod Steps

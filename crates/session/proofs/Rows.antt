@@ -1,15 +1,16 @@
 -- What the journal's type says of its rows, and what its ghost fields ask of the rows written.
-use Rattle.std.proofs.Common.{◌≡◌, ℕ, ◌+◌, ◌-◌, ◌<◌, ◌≤◌, true, false, ltb, leb, ◌⊎◌, List, [], ◌∷◌, map, length, get_or, set, Some, sym, refl, ap, ◌∙◌, subst, ⊎_elim, arith}
-use Rattle.std.proofs.lemmas.Bool.{cases_lt, eq-eqb, lt-ltb, le-ltb, cond-true, cond-false}
+use Rattle.std.proofs.Common.{◌≡◌, ℕ, ◌+◌, ◌-◌, ◌<◌, ◌≤◌, true, List, [], ◌∷◌, map, length, get_or, set, Ok, sym, refl, ap, ◌∙◌, subst, ⊎_elim, arith}
+use Rattle.std.proofs.lemmas.Bool.{cases_lt}
 use Rattle.std.proofs.lemmas.List.{length-map, length-set}
 use Rattle.edits.specs.declared.command.Command.{Command}
 use Rattle.edits.specs.Commands.{Edit, edit_of}
 use Rattle.session.specs.declared.mark.Mark.{Mark}
 use Rattle.session.specs.declared.journal.Journal.{Journal}
-use Rattle.session.specs.Stack.{stack, top, rest}
-use Rattle.session.specs.Trail.{marked?, room, roomy, noted, kept, Low, High}
+use Rattle.session.specs.Stack.{stack, rest}
+use Rattle.session.specs.Trail.{marked?, granted, kept, Low, High}
 use Rattle.session.specs.Meaning.{trail, marks}
-use Rattle.session.proofs.Stacks.{stack_none, stack_push, stack_pop, length_stack, stack_top, stack_rest, rest_none, marked_tail, marked_on, marked_more, marked_rest}
+use Rattle.session.proofs.Stacks.{stack_none, stack_push, stack_pop, length_stack, stack_rest, rest_none, marked_on, marked_more, marked_rest}
+use Rattle.session.proofs.Grants.{room_some}
 
 pub trail_length : (j : Journal) → length (trail j) ≡ j.len
 trail_length j =
@@ -20,6 +21,10 @@ trail_length j =
 pub marks_length : (j : Journal) → length (marks j) ≡ j.depth
 marks_length j = let f = j.shallow in let s = j.wide in length_stack j.marks j.depth (omega arith)
 
+-- the marks lie within the records
+pub marks_fit : (j : Journal) → marked? (length (trail j)) (marks j) ≡ true
+marks_fit j = ap (λ n. marked? n (marks j)) (trail_length j) ∙ j.marked
+
 -- what the type keeps of its fields
 abbrev pub Fields : List Command → ℕ → List Mark → ℕ → Type 0
 Fields es n ms d = record { sized : length es ≡ 512; few : n ≤ 512; wide : length ms ≡ 8; shallow : d ≤ 8; marked : marked? n (stack ms d) ≡ true }
@@ -29,6 +34,13 @@ pub none_noted : (es : List Command) → map edit_of (stack es 0) ≡ []
 none_noted es = ap (map edit_of) (stack_none es)
 
 module _ (j : Journal) where
+  -- where a note is granted and a save is there, a record is free
+  pub room_left : (u : Unit {0}) → (j.depth ≡ 0 → ⊥) → Ok u ≡ granted (marks j) (trail j) 1 → j.len < 512
+  room_left u d r =
+      let l = trail_length j in
+      let h = room_some (trail j) (marks j) u (λ z. d (sym (marks_length j) ∙ z)) r in
+      omega arith
+
   pub push_fields : (c : Command) → (j.depth ≡ 0 → ⊥) → j.len < 512 → Fields (set j.entries j.len c) (j.len + 1) j.marks j.depth
   push_fields c d h =
       record {
@@ -58,26 +70,11 @@ module _ (j : Journal) where
     marked = ap (marked? j.len) (open_marks m h) ∙ marked_on j.len m (marks j) (omega arith) (subst (λ n. marked? n (marks j) ≡ true) (sym e) j.marked);
   }
 
-  pub top_mark : (d : Mark) → 0 < j.depth → top (marks j) ≡ Some (get_or j.marks (j.depth - 1) d)
-  top_mark d h = let s = j.wide in let k = j.shallow in sym (stack_top j.marks j.depth d h (omega arith))
-
   pub no_mark : j.depth ≡ 0 → marks j ≡ []
   no_mark e = ap (stack j.marks) e ∙ stack_none j.marks
 
   -- one record fewer, still at or above the newest mark
   module _ (m : Mark) (ms : List Mark) (is : marks j ≡ m ∷ ms) (h : m.at < j.len) where
-    pub pop_fields : Fields j.entries (j.len - 1) j.marks j.depth
-    pop_fields =
-        let f = j.few in
-        let k : marked? j.len (m ∷ ms) ≡ true = subst (λ l. marked? j.len l ≡ true) is j.marked in
-        record {
-          sized = j.sized;
-          few = omega arith;
-          wide = j.wide;
-          shallow = j.shallow;
-          marked = ap (marked? (j.len - 1)) is ∙ marked_on (j.len - 1) m ms (omega arith) (marked_tail j.len m ms k);
-        }
-
     pub pop_trail : (d : Command) → trail j ≡ edit_of (get_or j.entries (j.len - 1) d) ∷ map edit_of (stack j.entries (j.len - 1))
     pop_trail d = let f = j.few in let s = j.sized in ap (map edit_of) (stack_pop j.entries j.len d (omega arith) (omega arith))
 
@@ -88,25 +85,6 @@ module _ (j : Journal) where
         let l = length-map (stack j.entries (j.len - 1)) edit_of in
         let k = length_stack j.entries (j.len - 1) (omega arith) in
         omega arith
-
--- what a note asks and leaves, where there is a save
-module _ (ms : List Mark) (e : Edit) (t : List Edit) where
-  pub room_free : ms ≡ [] → (true ≡ room ms t) × (t ≡ noted ms e t)
-  room_free z = (sym (ap (λ l. room l t) z), sym (ap (λ l. noted l e t) z))
-
-  pub room_full : (length ms ≡ 0 → ⊥) → 512 ≤ length t → (false ≡ room ms t) × (t ≡ noted ms e t)
-  room_full d h = by_marks ms d
-    where
-      by_marks : (l : List Mark) → (length l ≡ 0 → ⊥) → (false ≡ room l t) × (t ≡ noted l e t)
-      by_marks [] f = absurd (f refl)
-      by_marks (m ∷ l) f = (sym (le-ltb (length t) 512 h), sym (cond-false (ltb (length t) 512) (e ∷ t) t (le-ltb (length t) 512 h)))
-
-  pub room_left : (length ms ≡ 0 → ⊥) → length t < 512 → (true ≡ room ms t) × (e ∷ t ≡ noted ms e t)
-  room_left d h = by_marks ms d
-    where
-      by_marks : (l : List Mark) → (length l ≡ 0 → ⊥) → (true ≡ room l t) × (e ∷ t ≡ noted l e t)
-      by_marks [] f = absurd (f refl)
-      by_marks (m ∷ l) f = (sym (lt-ltb (length t) 512 h), sym (cond-true (ltb (length t) 512) (e ∷ t) t (lt-ltb (length t) 512 h)))
 
 -- nothing is taken off at the newest mark
 pub stays_low : (ms : List Mark) (t : List Edit) (m : Mark) (n : ℕ) → ms ≡ m ∷ rest ms → length t ≡ n → n ≤ m.at → Low ms t
@@ -119,8 +97,8 @@ kept_some : (ms : List Mark) (t : List Edit) → (length ms ≡ 0 → ⊥) → t
 kept_some [] t d = absurd (d refl)
 kept_some (m ∷ ms) t d = refl
 
--- the newest save gone: d saves are left, and n records
-module _ (j : Journal) (d n : ℕ) (e : d ≡ j.depth - 1) (came : ((d ≡ 0) × (n ≡ 0)) ⊎ ((d ≡ 0 → ⊥) × (n ≡ j.len))) where
+-- the newest save gone: d saves are left
+module _ (j : Journal) (d : ℕ) (e : d ≡ j.depth - 1) where
   pub close_marks : stack j.marks d ≡ rest (marks j)
   close_marks =
       let s = j.wide in
@@ -130,58 +108,34 @@ module _ (j : Journal) (d n : ℕ) (e : d ≡ j.depth - 1) (came : ((d ≡ 0) ×
       (λ h. let z : d ≡ j.depth = omega arith in ap (stack j.marks) z ∙ rest_none j.marks j.depth (omega arith))
       (cases_lt 0 j.depth)
 
-  fewer : (d ≡ 0 → ⊥) → marked? j.len (stack j.marks d) ≡ true
-  fewer some =
-      let s = j.wide in
-      let k = j.shallow in
-      ap (marked? j.len) close_marks
-      ∙ by_marks (marks j) j.marked (λ z. some (sym (length_stack j.marks d (omega arith)) ∙ ap length close_marks ∙ z))
-    where
-      by_marks : (ms : List Mark) → marked? j.len ms ≡ true → (length (rest ms) ≡ 0 → ⊥) → marked? j.len (rest ms) ≡ true
-      by_marks [] e f = absurd (f refl)
-      by_marks (m ∷ []) e f = absurd (f refl)
-      by_marks (m ∷ (l ∷ ms)) e f = marked_rest j.len m l ms e
+  -- none is left
+  module _ (z : d ≡ 0) where
+    none_left : stack j.marks d ≡ []
+    none_left = ap (stack j.marks) z ∙ stack_none j.marks
 
-  pub close_fields : Fields j.entries n j.marks d
-  close_fields =
-      let k = j.shallow in
-      let f = j.few in
-      ⊎_elim
-      (λ h. record {
-        sized = j.sized;
-        few = let z = h.1 in omega arith;
-        wide = j.wide;
-        shallow = let z = h.0 in omega arith;
-        marked = ap (λ m. marked? n (stack j.marks m)) h.0 ∙ ap (marked? n) (stack_none j.marks) ∙ eq-eqb n 0 h.1;
-      })
-      (λ h. record {
-        sized = j.sized;
-        few = let z = h.1 in omega arith;
-        wide = j.wide;
-        shallow = omega arith;
-        marked = ap (λ m. marked? m (stack j.marks d)) h.1 ∙ fewer h.0;
-      })
-      came
+    pub last_fields : Fields j.entries 0 j.marks d
+    last_fields = record { sized = j.sized; few = omega arith; wide = j.wide; shallow = omega arith; marked = ap (marked? 0) none_left }
 
-  pub close_trail : map edit_of (stack j.entries n) ≡ kept (rest (marks j)) (trail j)
-  close_trail =
-      let s = j.wide in
-      let k = j.shallow in
-      ⊎_elim
-      (λ h.
-      ap (λ m. map edit_of (stack j.entries m)) h.1
-      ∙ none_noted j.entries
-      ∙ sym (ap (λ ms. kept ms (trail j)) (sym close_marks ∙ ap (stack j.marks) h.0 ∙ stack_none j.marks)))
-      (λ h.
-      ap (λ m. map edit_of (stack j.entries m)) h.1
-      ∙ kept_some (rest (marks j)) (trail j)
-      (λ z. h.0 (sym (length_stack j.marks d (omega arith)) ∙ ap length close_marks ∙ z)))
-      came
+    pub last_trail : map edit_of (stack j.entries 0) ≡ kept (rest (marks j)) (trail j)
+    last_trail = none_noted j.entries ∙ sym (ap (λ ms. kept ms (trail j)) (sym close_marks ∙ none_left))
 
--- room for so many, as the code tells it
-pub roomy_free : (ms : List Mark) (t : List Edit) (need : ℕ) → ms ≡ [] → true ≡ roomy ms t need
-roomy_free ms t need z = sym (ap (λ l. roomy l t need) z)
+  -- some are left
+  module _ (d_some : d ≡ 0 → ⊥) where
+    some_left : length (rest (marks j)) ≡ 0 → ⊥
+    some_left z =
+        let s = j.wide in
+        let k = j.shallow in
+        d_some (sym (length_stack j.marks d (omega arith)) ∙ ap length close_marks ∙ z)
 
-pub roomy_some : (ms : List Mark) (t : List Edit) (need n : ℕ) → (length ms ≡ 0 → ⊥) → length t ≡ n → leb need (512 - n) ≡ roomy ms t need
-roomy_some [] t need n d e = absurd (d refl)
-roomy_some (m ∷ ms) t need n d e = ap (λ k. leb need (512 - k)) (sym e)
+    pub close_fields : Fields j.entries j.len j.marks d
+    close_fields =
+        let k = j.shallow in
+        record { sized = j.sized; few = j.few; wide = j.wide; shallow = omega arith; marked = ap (marked? j.len) close_marks ∙ by_marks (marks j) j.marked some_left }
+      where
+        by_marks : (ms : List Mark) → marked? j.len ms ≡ true → (length (rest ms) ≡ 0 → ⊥) → marked? j.len (rest ms) ≡ true
+        by_marks [] e f = absurd (f refl)
+        by_marks (m ∷ []) e f = absurd (f refl)
+        by_marks (m ∷ (l ∷ ms)) e f = marked_rest j.len m l ms e
+
+    pub close_trail : trail j ≡ kept (rest (marks j)) (trail j)
+    close_trail = kept_some (rest (marks j)) (trail j) some_left

@@ -1,7 +1,9 @@
 -- A row of which the first n are a stack.
-use Rattle.std.proofs.Common.{◌≡◌, ℕ, ◌+◌, ◌-◌, ◌<◌, ◌≤◌, Bool, true, ltb, leb, List, [], ◌∷◌, reverse, length, get_or, take, set, Some, None, sym, refl, ap, ◌∙◌, arith}
-use Rattle.std.proofs.lemmas.List.{take_more, take_more_set, reverse-append, length-reverse, length-take}
+use Rattle.std.proofs.Common.{◌≡◌, ℕ, ◌+◌, ◌-◌, ◌<◌, ◌≤◌, true, leb, List, [], ◌∷◌, reverse, length, get_or, take, set, Some, None, sym, refl, ap, ◌∙◌, arith}
+use Rattle.std.proofs.lemmas.List.{take_all, take_more, take_more_set, reverse-append, length-reverse, length-take}
 use Rattle.std.proofs.lemmas.Bool.{and_parts, and_from, leb-true, le-leb, eqb-true}
+use Rattle.std.specs.List.{slice_get}
+use Rattle.std.proofs.lemmas.Option.{slice_get-get_or}
 use Rattle.session.specs.declared.mark.Mark.{Mark}
 use Rattle.session.specs.Trail.{marked?}
 use Rattle.session.specs.Stack.{stack, top, rest}
@@ -30,14 +32,17 @@ module _ {A : Type 0} where
   unfolding stack
   length_stack xs n h = simp (length-reverse, length-take) (omega arith)
 
-  pub room_stack : (xs : List A) (n m : ℕ) (b : Bool) → n ≤ length xs → b ≡ ltb n m → b ≡ ltb (length (stack xs n)) m
-  room_stack xs n m b h e = e ∙ ap (λ (k : ℕ). ltb k m) (sym (length_stack xs n h))
-
   pub stack_top : (xs : List A) (n : ℕ) (d : A) → 0 < n → n ≤ length xs → Some (get_or xs (n - 1) d) ≡ top (stack xs n)
   stack_top xs n d h k = ap top (sym (stack_pop xs n d h k))
 
-  pub top_none : (xs : List A) (n : ℕ) → n ≡ 0 → None ≡ top (stack xs n)
-  top_none xs n e = sym (ap (λ (m : ℕ). top (stack xs m)) e ∙ ap top (stack_none xs))
+  -- the last of a row is its top
+  pub last_top : (xs : List A) → slice_get xs (length xs - 1) ≡ top (reverse xs)
+  unfolding stack
+  last_top [] = refl
+  last_top (x ∷ xs) =
+      let ys = x ∷ xs in
+      slice_get-get_or ys (length ys - 1) x (omega arith) ∙ stack_top ys (length ys) x (omega arith) (omega arith)
+      ∙ ap (λ l. top (reverse l)) (take_all (length ys) ys (omega arith))
 
   pub stack_rest : (xs : List A) (n : ℕ) → 0 < n → n ≤ length xs → stack xs (n - 1) ≡ rest (stack xs n)
   stack_rest xs n h k = ap rest (sym (stack_pop xs n (last_of xs n k h) h k))
@@ -72,9 +77,9 @@ marked_oldest n m e = eqb-true m.at 0 (marked_tail n m [] e)
 
 -- a top, and what lies under it
 pub top_cons : {A : Type 0} (xs : List A) (x : A) → Some x ≡ top xs → xs ≡ x ∷ rest xs
-top_cons [] x e = let z : ◌≡◌ {A = ℕ} 0 1 = cc in absurd (omega arith)
+top_cons [] x e = cc
 top_cons {A = A} (y ∷ ys) x e = let q : y ≡ x = cc in ap (λ (z : A). z ∷ ys) q
 
 pub top_nil : {A : Type 0} (xs : List A) → None ≡ top xs → xs ≡ []
 top_nil [] e = refl
-top_nil (y ∷ ys) e = let z : ◌≡◌ {A = ℕ} 0 1 = cc in absurd (omega arith)
+top_nil (y ∷ ys) e = cc

@@ -1,33 +1,29 @@
 -- A replace, use by use, in the copying session.
-use Rattle.std.proofs.Common.{◌≡◌, ℕ, suc, ◌-◌, ◌<◌, ◌≤◌, true, false, ltb, List, [], ◌∷◌, length, Some, None, Ok, Err, Result, sym, refl, ap, ◌∙◌, subst, inl, ⊎_elim, arith}
-use mathlib.Core.Bool.{false≢true}
-use Rattle.std.proofs.lemmas.Bool.{ltb-true, le-ltb, lt-ltb, leb-true, le-leb, cond-true, cond-false, cases_lt}
+use Rattle.std.proofs.Common.{◌≡◌, ℕ, suc, ◌-◌, ◌<◌, ◌≤◌, List, [], ◌∷◌, length, Some, None, sym, refl, ap, ◌∙◌, subst, inl, arith}
+use Rattle.std.proofs.lemmas.Bool.{ltb-true}
+use Rattle.std.proofs.lemmas.Bool.Decides.{nat_tests}
 use Rattle.ir.specs.Operations.{arity}
 use Rattle.program.specs.Programs.{Program, at}
 use Rattle.program.specs.Uses.{uses, least_beyond, position}
 use Rattle.program.specs.Proper.{Proper}
 use Rattle.program.proofs.Uses.{in_uses}
 use Rattle.edits.specs.Commands.{Edit, after}
-use Rattle.edits.specs.Replace.{replace, replace_fault, Replaceable, swap, OneSwap}
-use Rattle.edits.proofs.Positions.{by_position, use_reads}
+use Rattle.edits.specs.Replace.{replace, Replaceable, swap, OneSwap}
+use Rattle.program.proofs.Positions.{by_position, use_reads}
 use Rattle.edits.proofs.Renaming.{replace_end}
 use Rattle.edits.proofs.Swaps.{replace_step}
-use Rattle.session.specs.declared.fault.SessionFault.{SessionFault}
-use Rattle.session.specs.declared.fault.SessionFault.TheVariants.{TooFewRecords}
-use Rattle.session.specs.Copying as copying
-use Rattle.session.specs.Copying.{Save, Copying, Step, to, charged, edited, edit_step}
-use Rattle.session.specs.declared.mark.Mark.{Mark}
-use Rattle.session.specs.Trail.{copies, roomy}
+use Rattle.session.specs.Copying.{Save, Copying, charged, edited, edit_step}
 use Rattle.session.specs.Sweeping.{Enough, Ready, swept}
+use Rattle.session.proofs.Steps.{paid, charged_enough}
 
 -- the least use heads the list
 pub head_use : (ys : List (ℕ × ℕ)) (y : ℕ × ℕ) → Some y ≡ least_beyond None ys → (zs : List (ℕ × ℕ)) × (ys ≡ y ∷ zs)
-head_use [] y e = let z : ◌≡◌ {A = ℕ} 0 1 = cc in absurd (omega arith)
+head_use [] y e = cc
 head_use (x ∷ xs) y e = let q : x ≡ y = cc in (xs, ap (λ z. z ∷ xs) q)
 
 pub no_use_left : (ys : List (ℕ × ℕ)) → None ≡ least_beyond None ys → ys ≡ []
 no_use_left [] e = refl
-no_use_left (x ∷ xs) e = let z : ◌≡◌ {A = ℕ} 0 1 = cc in absurd (omega arith)
+no_use_left (x ∷ xs) e = cc
 
 -- a use names an operand that is there
 pub use_position : (p : Program) (n : ℕ) (y : ℕ × ℕ) (ys : List (ℕ × ℕ)) → uses p n ≡ y ∷ ys → (1 ≤ y.1) × (y.1 ≤ arity (at p y.0).op)
@@ -40,16 +36,6 @@ use_position p n y ys is =
     (λ t e. let l = ltb-true 2 (arity i.op) t in (omega arith, omega arith))
     y.1
     (use_reads p n y (in_uses p n y (subst (λ l. Rattle.program.specs.Uses.Among y l) (sym is) (inl refl))))
-
--- an edit that is paid for
-abbrev paid : Copying → Program → ℕ → List Save → Copying
-paid s q need [] = record { program = q; saves = s.saves; left = s.left }
-paid s q need (v ∷ vs) = record { program = q; saves = s.saves; left = s.left - need }
-
-charged_enough : (s : Copying) (q : Program) (need : ℕ) (vs : List Save) → Enough vs s.left need → charged s q need vs ≡ to (paid s q need vs) (Ok tt)
-charged_enough s q need [] h = refl
-charged_enough s q need (v ∷ vs) h =
-    cond-false (ltb s.left need) (to s (Err (TooFewRecords need))) (to (record { program = q; saves = s.saves; left = s.left - need }) (Ok tt)) (le-ltb s.left need h)
 
 enough_less : (vs : List Save) (left k n : ℕ) → k ≤ n → Enough vs left n → Enough vs left k
 enough_less [] left k n h e = tt
@@ -99,9 +85,7 @@ module _ (s : Copying) (n m : ℕ) (y : ℕ × ℕ) (ys : List (ℕ × ℕ)) (t 
 
   same_end : (vs : List Save) → paid (paid s q 1 vs) (replace n m q) (length ys) vs ≡ paid s (replace n m s.program) (suc (length ys)) vs
   same_end [] = ap (λ p. record { program = p; saves = s.saves; left = s.left }) one.same
-  same_end (v ∷ vs) =
-      let k : s.left - 1 - length ys ≡ s.left - suc (length ys) = omega arith in
-      ap (λ p. record { program = p; saves = s.saves; left = s.left - 1 - length ys }) one.same ∙ ap (λ l. record { program = replace n m s.program; saves = s.saves; left = l }) k
+  same_end (v ∷ vs) = let k : s.left - 1 - length ys ≡ s.left - suc (length ys) = omega arith in let z = one.same in cc
 
   pub one_swept : swept n m next ≡ swept n m s
   one_swept =
@@ -125,40 +109,4 @@ none_swept s n m is =
   where
     by_saves : (vs : List Save) → (charged s s.program 0 vs).after ≡ s
     by_saves [] = refl
-    by_saves (v ∷ vs) =
-        let k : s.left - 0 ≡ s.left = omega arith in
-        ap (λ x. x.after) (charged_enough s s.program 0 (v ∷ vs) (omega arith)) ∙ ap (λ l. record { program = s.program; saves = s.saves; left = l }) k
-
--- ---- a whole replace
-
-abbrev whole : ℕ → ℕ → Copying → Step (Result (Unit {0}) SessionFault)
-whole n m s = copying.replace_step n m s
-
--- with records for it
-pub whole_done : (s : Copying) (n m : ℕ) → replace_fault s.program n m ≡ None → Enough s.saves s.left (length (uses s.program n)) → whole n m s ≡ to (swept n m s) (Ok tt)
-whole_done s n m fine h =
-    let need = length (uses s.program n) in
-    let is = charged_enough s (replace n m s.program) need s.saves h in
-    ap (λ f. edited s f (replace n m s.program) need) fine ∙ is ∙ ap (λ x. to x (Ok tt)) (sym (ap (λ x. x.after) is))
-
--- without
-pub whole_short : (s : Copying) (n m need : ℕ) → replace_fault s.program n m ≡ None → need ≡ length (uses s.program n) → (Enough s.saves s.left need → ⊥) → whole n m s ≡ to s (Err (TooFewRecords need))
-whole_short s n m need fine is d =
-    ap (λ f. edited s f (replace n m s.program) (length (uses s.program n))) fine
-    ∙ ap (λ k. charged s (replace n m s.program) k s.saves) (sym is)
-    ∙ by_saves s.saves d
-  where
-    by_saves : (vs : List Save) → (Enough vs s.left need → ⊥) → charged s (replace n m s.program) need vs ≡ to s (Err (TooFewRecords need))
-    by_saves [] f = absurd (f tt)
-    by_saves (v ∷ vs) f =
-        cond-true (ltb s.left need) (to s (Err (TooFewRecords need))) (to (record { program = replace n m s.program; saves = s.saves; left = s.left - need }) (Ok tt))
-        (⊎_elim (λ l. lt-ltb s.left need l) (λ l. absurd (f l)) (cases_lt s.left need))
-
--- room in the journal is what the copying session asks
-pub roomy_enough : (p : Program) (t : List Edit) (ms : List Mark) (need : ℕ) → true ≡ roomy ms t need → Enough (copies p t ms) (512 - length t) need
-roomy_enough p t [] need e = tt
-roomy_enough p t (m ∷ ms) need e = leb-true need (512 - length t) (sym e)
-
-pub cramped : (p : Program) (t : List Edit) (ms : List Mark) (need : ℕ) → false ≡ roomy ms t need → Enough (copies p t ms) (512 - length t) need → ⊥
-cramped p t [] need e h = false≢true e
-cramped p t (m ∷ ms) need e h = false≢true (e ∙ le-leb need (512 - length t) h)
+    by_saves (v ∷ vs) = grind (arith, nat_tests)

@@ -5,8 +5,6 @@ use Rattle.edits.specs.Commands.{Edit, make, link, unlink, unmake, rewrite}
 use Rattle.session.specs.declared.fault.SessionFault.{SessionFault}
 use Rattle.session.specs.declared.call.Call.{Call}
 use Rattle.session.specs.declared.call.Call.TheVariants.{Make, Place, Detach, Erase, Rewrite, Replace, Save, Hold, Accept, Revert, AcceptHeld, RevertHeld}
-use Rattle.session.specs.declared.call.Reply.{Reply}
-use Rattle.session.specs.declared.call.Reply.TheVariants.{Accepted, Refused}
 use Rattle.session.specs.Copying.{Copying, Step, edit_step, replace_step, open_step, accept_step, revert_step, answering}
 
 -- what changes the program directly
@@ -44,33 +42,33 @@ act_of (RevertHeld depth) = end reverting true depth
 abbrev pub Answer : Type 0
 Answer = Result ℕ SessionFault
 
-abbrev pub answer_of : Reply → Answer
-answer_of (Accepted value) = Ok value
-answer_of (Refused f) = Err f
-
 -- what answers nothing answers 0
 abbrev pub zeroed : Result (Unit {0}) SessionFault → Answer
 zeroed (Ok u) = Ok 0
 zeroed (Err f) = Err f
 
+-- an edit or a replace answers 0 or why it was refused
 abbrev pub work_step : Work → Copying → Step Answer
 work_step (edit e) = answering zeroed (edit_step e)
 work_step (replace n m) = answering zeroed (replace_step n m)
 
+-- so does an accept or a revert, by a depth or by a token
 abbrev pub close_step : Ending → Bool → ℕ → Copying → Step Answer
 close_step accepting held depth = answering zeroed (accept_step depth held)
 close_step reverting held depth = answering zeroed (revert_step depth held)
 
+-- the step of any call
 abbrev pub act_step : Act → Copying → Step Answer
 act_step (work w) = work_step w
 act_step (begin held) = open_step held
 act_step (end e held depth) = close_step e held depth
 
--- the answers to a list of calls, and the session after them
+-- the answers to a list of calls
 abbrev pub answers : List Act → Copying → List Answer
 answers [] s = []
 answers (a ∷ rest) s = (act_step a s).answer ∷ answers rest (act_step a s).after
 
+-- the session after a list of calls
 abbrev pub final : List Act → Copying → Copying
 final [] s = s
 final (a ∷ rest) s = final rest (act_step a s).after

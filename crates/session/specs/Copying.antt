@@ -40,6 +40,7 @@ pub record Step (A : Type 0) : Type 0 where
   pub after : Copying
   pub answer : A
 
+-- the step that leads to a session and answers so
 abbrev pub to : {A : Type 0} → Copying → A → Step A
 to s a = record { after = s; answer = a }
 
@@ -74,6 +75,7 @@ open_step held s =
     (to (record { program = s.program; saves = record { program = s.program; left = s.left; held = held } ∷ s.saves; left = s.left }) (Ok (length s.saves + 1)))
     (to s (Err (TooDeep (length s.saves))))
 
+-- whether two kinds of save are one
 abbrev pub same : Bool → Bool → Bool
 same true true = true
 same true false = false
@@ -101,13 +103,16 @@ abbrev pub reverted : Copying → List Save → Copying
 reverted s [] = s
 reverted s (v ∷ vs) = record { program = v.program; saves = vs; left = v.left }
 
+-- a refused close leaves one session as it is, an accepted one leads to the other
 abbrev pub closed : Option SessionFault → Copying → Copying → Step (Result (Unit {0}) SessionFault)
 closed None s t = to t (Ok tt)
 closed (Some f) s t = to s (Err f)
 
+-- an accept, by the depth and the kind of the newest save
 abbrev pub accept_step : ℕ → Bool → Copying → Step (Result (Unit {0}) SessionFault)
 accept_step depth held s = closed (close_fault s.saves depth held) s (accepted s s.saves)
 
+-- a revert, by the depth and the kind of the newest save
 abbrev pub revert_step : ℕ → Bool → Copying → Step (Result (Unit {0}) SessionFault)
 revert_step depth held s = closed (close_fault s.saves depth held) s (reverted s s.saves)
 

@@ -1,18 +1,19 @@
 -- A journal in place of copies: what takes back each edit, newest first, and for each save how many there were then.
-use Rattle.std.specs.Prelude.{◌≡◌, ℕ, ◌-◌, ◌≤◌, Bool, true, cond, ◌&&◌, List, [], ◌∷◌, length, take, drop, Some, None, Ok, Err, Option, Result, ◌==◌, nat_le, nat_lt}
+use Rattle.std.specs.Prelude.{◌≡◌, ℕ, ◌+◌, ◌-◌, ◌≤◌, Bool, cond, ◌&&◌, List, [], ◌∷◌, length, take, drop, Some, None, Ok, Err, Option, Result, ◌==◌, nat_le, nat_lt}
 use Rattle.program.specs.Programs.{Program}
 use Rattle.edits.specs.declared.command.Command.{Command}
 use Rattle.edits.specs.Commands.{Edit, edit_of}
 use Rattle.edits.specs.Journals.{play}
 use Rattle.session.specs.declared.mark.Mark.{Mark}
 use Rattle.session.specs.declared.fault.SessionFault.{SessionFault}
-use Rattle.session.specs.declared.fault.SessionFault.TheVariants.{NotNewest, WrongKind}
+use Rattle.session.specs.declared.fault.SessionFault.TheVariants.{TooDeep, NotNewest, WrongKind, TooFewRecords}
 use Rattle.session.specs.Copying.{Save, Copying, same}
 
--- the records above a mark, and those below
+-- the records above a mark
 abbrev pub above : List Edit → ℕ → List Edit
 above trail at = take (length trail - at) trail
 
+-- the records below a mark
 abbrev pub below : List Edit → ℕ → List Edit
 below trail at = drop (length trail - at) trail
 
@@ -32,15 +33,14 @@ abbrev pub marked? : ℕ → List Mark → Bool
 marked? n [] = n == 0
 marked? n (m ∷ ms) = nat_le m.at n && marked? m.at ms
 
--- whether an edit can be noted: without a save it need not be
-abbrev pub room : List Mark → List Edit → Bool
-room [] trail = true
-room (m ∷ ms) trail = nat_lt (length trail) 512
+-- records for so many edits, or the want of them; without a save none are needed
+abbrev pub granted : List Mark → List Edit → ℕ → Result (Unit {0}) SessionFault
+granted [] trail need = Ok tt
+granted (m ∷ ms) trail need = cond (nat_lt (512 - length trail) need) (Err (TooFewRecords need)) (Ok tt)
 
--- whether so many edits can be noted
-abbrev pub roomy : List Mark → List Edit → ℕ → Bool
-roomy [] trail need = true
-roomy (m ∷ ms) trail need = nat_le need (512 - length trail)
+-- the depth once a save more is opened; or there are eight
+abbrev pub deepened : List Mark → Result ℕ SessionFault
+deepened ms = cond (nat_lt (length ms) 8) (Ok (length ms + 1)) (Err (TooDeep (length ms)))
 
 -- the records once an edit is noted
 abbrev pub noted : List Mark → Edit → List Edit → List Edit
@@ -67,11 +67,12 @@ abbrev pub Popped : List Mark → List Edit → List Edit → Option Command →
 Popped ms before later None = (later ≡ before) × Low ms before
 Popped ms before later (Some c) = (before ≡ edit_of c ∷ later) × High ms later
 
--- the program, and the records, once those above the newest mark are taken back
+-- the program once the records above the newest mark are taken back
 abbrev pub undone : List Mark → List Edit → Program → Program
 undone [] trail p = p
 undone (m ∷ ms) trail p = play p (above trail m.at)
 
+-- the records that are left then
 abbrev pub lowered : List Mark → List Edit → List Edit
 lowered [] trail = trail
 lowered (m ∷ ms) trail = below trail m.at

@@ -1,6 +1,6 @@
 // The calls of a session as values.
 ghost use Rattle.std.specs.Prelude.{◌≡◌};
-ghost use Rattle.session.specs.Calls.{act_of, act_step, answer_of, zeroed};
+ghost use Rattle.session.specs.Calls.{act_of, act_step, zeroed};
 ghost use Rattle.session.specs.Meaning.{Called};
 ghost use Rattle.session.specs.Tokens.{borne, kept_by};
 
@@ -11,7 +11,7 @@ use ir::instruction::Record;
 use program::store::Store;
 
 // A token call is named by the depth that the token bears.
-#[derive(Clone, Copy)]
+#[derive(Clone, Copy, PartialEq, Eq)]
 pub enum Call {
     Make(u32, Record),
     Place(u32, Option<u32>),
@@ -28,60 +28,31 @@ pub enum Call {
 }
 
 // The depth of a save or a hold, 0 for any other accepted call; or why the call was refused.
-#[derive(Clone, Copy)]
-pub enum Reply {
-    Accepted(u32),
-    Refused(SessionFault),
-}
-
-fn opened(answer: Result<u32, SessionFault>) -> Reply
-    ensures { answer_of result ≡ answer }
-{
-    match answer {
-        Ok(depth) => Reply::Accepted(depth),
-        Err(fault) => Reply::Refused(fault),
-    }
-}
+pub type Reply = Result<u32, SessionFault>;
 
 fn done(answer: Result<(), SessionFault>) -> Reply
-    ensures { answer_of result ≡ zeroed answer }
+    ensures { result ≡ zeroed answer }
 {
-    match answer {
-        Ok(()) => Reply::Accepted(0),
-        Err(fault) => Reply::Refused(fault),
-    }
+    answer.map(|()| 0)
 }
 
 // The token is taken apart: a list names it by its depth.
 fn held(answer: Result<Token, SessionFault>) -> Reply
-    ensures { answer_of result ≡ borne answer }
+    ensures { result ≡ borne answer }
 {
-    match answer {
-        Ok(token) => {
-            let Token { depth } = token;
-            Reply::Accepted(depth)
-        }
-        Err(fault) => Reply::Refused(fault),
-    }
+    answer.map(|Token { depth }| depth)
 }
 
 fn spent(answer: Result<(), (SessionFault, Token)>) -> Reply
-    ensures { answer_of result ≡ zeroed (kept_by answer) }
+    ensures { result ≡ zeroed (kept_by answer) }
 {
-    match answer {
-        Ok(()) => Reply::Accepted(0),
-        Err(unspent) => {
-            let (fault, token) = unspent;
-            let Token { depth: _ } = token;
-            Reply::Refused(fault)
-        }
-    }
+    done(answer.map_err(|(fault, Token { depth: _ })| fault))
 }
 
 impl<S: Store, M> Session<S, M> {
     // Makes one call.
     pub fn call(&mut self, call: Call) -> Reply
-        ensures { Called S.program (act_step (act_of call)) self.old self.new (answer_of result) }
+        ensures { Called S.program (act_step (act_of call)) self.old self.new result }
     {
         match call {
             Call::Make(n, what) => done(self.make(n, what)),
@@ -90,7 +61,7 @@ impl<S: Store, M> Session<S, M> {
             Call::Erase(n) => done(self.erase(n)),
             Call::Rewrite(n, what) => done(self.rewrite(n, what)),
             Call::Replace(n, m) => done(self.replace(n, m)),
-            Call::Save => opened(self.save()),
+            Call::Save => self.save(),
             Call::Hold => held(self.hold()),
             Call::Accept(depth) => done(self.accept(depth)),
             Call::Revert(depth) => done(self.revert(depth)),

@@ -6,7 +6,7 @@ ghost use Rattle.session.specs.Copying.{session_report};
 use ir::fault::{Layer, Report};
 use program::fault::StoreFault;
 
-#[derive(Clone, Copy)]
+#[derive(Clone, Copy, PartialEq, Eq)]
 pub enum SessionFault {
     Store(StoreFault),
     // as many saves as there may be: the session's depth
@@ -27,27 +27,17 @@ impl From<StoreFault> for SessionFault {
     }
 }
 
-fn saves_fault(number: u32, place: u32) -> Report
-    ensures { result ≡ record { number = number; layer = Layer.Saves; place = place } }
-{
-    Report {
-        number,
-        layer: Layer::Saves,
-        place: place as usize,
-    }
-}
+// The fault's number, its layer and its place; a store's fault as the store gave it.
+impl From<SessionFault> for Report {
+    ghost from_gives = { λ f r. r ≡ session_report f };
 
-impl SessionFault {
-    // The fault's number, its layer and its place; a store's fault as the store gave it.
-    pub fn report(self) -> Report
-        ensures { result ≡ session_report self }
-    {
-        match self {
-            SessionFault::Store(fault) => fault.report(),
-            SessionFault::TooDeep(depth) => saves_fault(10, depth),
-            SessionFault::NotNewest(depth) => saves_fault(11, depth),
-            SessionFault::WrongKind(depth) => saves_fault(12, depth),
-            SessionFault::TooFewRecords(need) => saves_fault(13, need),
+    fn from(fault: SessionFault) -> Report {
+        match fault {
+            SessionFault::Store(fault) => fault.into(),
+            SessionFault::TooDeep(depth) => Layer::Saves.report(10, depth as usize),
+            SessionFault::NotNewest(depth) => Layer::Saves.report(11, depth as usize),
+            SessionFault::WrongKind(depth) => Layer::Saves.report(12, depth as usize),
+            SessionFault::TooFewRecords(need) => Layer::Saves.report(13, need as usize),
         }
     }
 }

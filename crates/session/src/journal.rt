@@ -8,6 +8,7 @@ mod methods;
 use crate::mark::Mark;
 use edits::command::Command;
 
+// Fixed arrays with how much of each is in use: the device has no heap.
 #[derive(Drop)]
 pub struct Journal {
     entries: [Command; 512],

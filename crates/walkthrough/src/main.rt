@@ -7,6 +7,7 @@ mod show;
 
 use flat::cells::FlatCell;
 use flat::flat::Flat;
+use program::reading::{next_of, record_at};
 use program::store::Store;
 use runs::cost::{Delay, Size};
 use std::io;
@@ -22,7 +23,7 @@ fn enter<S: Store>(rt: &impl Print, store: &mut S) -> io::Result<()> {
     Ok(())
 }
 
-fn prices<S: Store>(rt: &impl Print, store: &mut S) -> io::Result<()> {
+fn prices<S: Store>(rt: &impl Print, store: &S) -> io::Result<()> {
     let mut scratch = [0u32; CELLS];
     show::price(
         rt,
@@ -36,7 +37,7 @@ fn prices<S: Store>(rt: &impl Print, store: &mut S) -> io::Result<()> {
     )
 }
 
-fn run<S: Store>(rt: &impl Print, store: &mut S, title: &str, inputs: &[u32]) -> io::Result<()> {
+fn run<S: Store>(rt: &impl Print, store: &S, title: &str, inputs: &[u32]) -> io::Result<()> {
     println!(rt; "{title}")?;
     let mut scratch = [0u32; CELLS];
     let mut output = [0u32; 2 * CELLS];
@@ -52,21 +53,18 @@ fn main(rt: HostRuntime) -> io::Result<()> {
     println!(rt; "\n2. A number that others read cannot be erased: detach 7, then try.")?;
     show::verdict(&rt, "detach 7", store.unlink(7))?;
     show::verdict(&rt, "erase 7", store.unmake(7))?;
-    show::uses(&rt, &mut store, 7)?;
+    show::uses(&rt, &store, 7)?;
     show::verdict(&rt, "place 7 before 8", store.link(7, Some(8)))?;
     println!(rt; "\n3. The listing, in order.")?;
-    show::listing(&rt, &mut store)?;
+    show::listing(&rt, store.first(), |n| {
+        Some((record_at(&store, n), next_of(&store, n)))
+    })?;
     println!(rt; "\n4. What it costs.")?;
-    prices(&rt, &mut store)?;
+    prices(&rt, &store)?;
     println!(rt;
         "\n5. Two runs. Inputs: 0 soil moisture in percent, 1 rain sensor, 2 minutes asked for."
     )?;
-    run(
-        &rt,
-        &mut store,
-        "Dry soil, no rain, 20 minutes:",
-        &script::DRY,
-    )?;
-    run(&rt, &mut store, "Dry soil, rain:", &script::RAIN)?;
+    run(&rt, &store, "Dry soil, no rain, 20 minutes:", &script::DRY)?;
+    run(&rt, &store, "Dry soil, rain:", &script::RAIN)?;
     saves::tour(&rt)
 }

@@ -8,7 +8,6 @@ use ir::instruction::Record;
 use ir::maker::RecordFault;
 use linked::cells::BLANK;
 use linked::linked::Linked;
-use program::fault::StoreFault;
 use program::store::Store;
 use runs::cost::Size;
 use session::call::{Call, Reply};
@@ -57,28 +56,11 @@ fn calls() -> Result<[Call; CALLS], RecordFault> {
 }
 
 fn answers(rt: &impl Print, calls: &[Call], replies: &[Reply]) -> io::Result<()> {
-    for i in 0..calls.len().min(replies.len()) {
-        show::call(rt, calls[i])?;
-        show::reply(rt, replies[i])?;
+    for (call, reply) in calls.iter().zip(replies) {
+        show::call(rt, *call)?;
+        show::reply(rt, *reply)?;
     }
     Ok(())
-}
-
-fn same_record(x: Record, y: Record) -> bool {
-    x.op.letter() == y.op.letter()
-        && x.literal == y.literal
-        && x.a == y.a
-        && x.b == y.b
-        && x.c == y.c
-}
-
-// The number that follows, or one that no store has.
-fn follower(next: Result<Option<u32>, StoreFault>) -> u32 {
-    match next {
-        Ok(Some(m)) => m,
-        Ok(None) => 1024,
-        Err(_) => 1025,
-    }
 }
 
 // Whether a number has the same record and the same place in both programs.
@@ -87,21 +69,12 @@ fn same_at<S: Store, T: Store, M>(
     other: &mut Session<T, M>,
     n: u32,
 ) -> bool {
-    if follower(one.next(n)) != follower(other.next(n)) {
-        return false;
-    }
-    let Ok(x) = one.read(n) else {
-        return other.read(n).is_err();
-    };
-    match other.read(n) {
-        Ok(y) => same_record(x, y),
-        Err(_) => false,
-    }
+    one.next(n) == other.next(n) && one.read(n) == other.read(n)
 }
 
 fn same_program<S: Store, T: Store, M>(one: &mut Session<S, M>, other: &mut Session<T, M>) -> bool {
     let size = one.size();
-    if size != other.size() || follower(Ok(one.first())) != follower(Ok(other.first())) {
+    if size != other.size() || one.first() != other.first() {
         return false;
     }
     for n in 0..size {
@@ -123,7 +96,7 @@ fn again<S: Store, T: Store + Drop>(
         "\n7. The {} calls that survive, entered in a new session on the other kind of store, the linked one.",
         kept.len()
     )?;
-    let mut replies = [Reply::Accepted(0); CALLS];
+    let mut replies: [Reply; CALLS] = [Ok(0); CALLS];
     let Ok(mut second) = enter(other, Size, kept, &mut replies) else {
         return println!(rt; "  no room for the replies");
     };
@@ -142,13 +115,15 @@ fn entered<S: Store + Drop, T: Store + Drop>(
     other: T,
     calls: &[Call],
 ) -> io::Result<()> {
-    let mut replies = [Reply::Accepted(0); CALLS];
+    let mut replies: [Reply; CALLS] = [Ok(0); CALLS];
     let Ok(mut session) = enter(store, Size, calls, &mut replies) else {
         return println!(rt; "  no room for the replies");
     };
     answers(rt, calls, &replies)?;
     println!(rt; "  The program then:")?;
-    show::listing_of(rt, &mut session)?;
+    show::listing(rt, session.first(), |n| {
+        Some((session.read(n).ok()?, session.next(n).ok()?))
+    })?;
     let mut kept = [Call::Save; CALLS];
     match survivors(calls, &replies, &mut kept) {
         Ok(count) if count <= CALLS => again(rt, &mut session, other, &kept[..count]),

@@ -142,17 +142,17 @@ pub const DRY: [u32; 16] = [22, 0, 20, 0, 0, 0, 0, 0, 0, 0, 0, 0, 0, 0, 0, 0];
 pub const RAIN: [u32; 16] = [22, 1, 20, 0, 0, 0, 0, 0, 0, 0, 0, 0, 0, 0, 0, 0];
 
 // Why a line does not go in.
-#[derive(Clone, Copy)]
+#[derive(Clone, Copy, PartialEq, Eq)]
 pub enum LineFault {
     Record(RecordFault),
     Store(StoreFault),
 }
 
-impl LineFault {
-    pub fn report(self) -> Report {
-        match self {
-            LineFault::Record(fault) => fault.report(),
-            LineFault::Store(fault) => fault.report(),
+impl From<LineFault> for Report {
+    fn from(fault: LineFault) -> Report {
+        match fault {
+            LineFault::Record(fault) => fault.into(),
+            LineFault::Store(fault) => fault.into(),
         }
     }
 }

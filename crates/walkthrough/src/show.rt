@@ -6,34 +6,12 @@ use program::fault::StoreFault;
 use program::store::Store;
 use runs::fault::RunFault;
 use session::call::{Call, Reply};
-use session::session::Session;
 use std::io;
 
-// A record as a line writes it, with blanks for tabs: letter, literal if it has one, operands.
-fn record(rt: &impl Print, what: Record) -> io::Result<()> {
-    print!(rt; "{}", what.op.letter())?;
-    if what.op.allows(1) {
-        print!(rt; " {}", what.literal)?;
-    }
-    let count = what.op.operands();
-    if count > 0 {
-        print!(rt; " {}", what.a)?;
-    }
-    if count > 1 {
-        print!(rt; " {}", what.b)?;
-    }
-    if count > 2 {
-        print!(rt; " {}", what.c)?;
-    }
-    Ok(())
-}
-
-fn refusal(rt: &impl Print, report: Report) -> io::Result<()> {
-    let letter = report.layer.letter();
-    println!(rt;
-        "refused: fault {}, layer {letter}, place {}",
-        report.number, report.place
-    )
+// A refusal on a line of its own.
+pub fn refusal<F: Into<Report>>(rt: &impl Print, fault: F) -> io::Result<()> {
+    let report: Report = fault.into();
+    println!(rt; "refused: {report}")
 }
 
 pub fn step(
@@ -45,11 +23,8 @@ pub fn step(
     print!(rt; "  {n:>2}  ")?;
     print!(rt; "{note:<34} ")?;
     match made {
-        Ok(what) => {
-            record(rt, what)?;
-            println!(rt; "")
-        }
-        Err(fault) => refusal(rt, fault.report()),
+        Ok(what) => println!(rt; "{what}"),
+        Err(fault) => refusal(rt, fault),
     }
 }
 
@@ -57,12 +32,12 @@ pub fn verdict(rt: &impl Print, what: &str, answer: Result<(), StoreFault>) -> i
     print!(rt; "  {what}: ")?;
     match answer {
         Ok(()) => println!(rt; "accepted"),
-        Err(fault) => refusal(rt, fault.report()),
+        Err(fault) => refusal(rt, fault),
     }
 }
 
 // The use list, read from the least use up until there is none.
-pub fn uses<S: Store>(rt: &impl Print, store: &mut S, n: u32) -> io::Result<()> {
+pub fn uses<S: Store>(rt: &impl Print, store: &S, n: u32) -> io::Result<()> {
     print!(rt; "  uses of {n}:")?;
     let mut after = None;
     for _ in 0..3072 {
@@ -75,16 +50,22 @@ pub fn uses<S: Store>(rt: &impl Print, store: &mut S, n: u32) -> io::Result<()> 
     println!(rt; "")
 }
 
-pub fn listing<S: Store>(rt: &impl Print, store: &mut S) -> io::Result<()> {
-    let mut at = store.first();
+// The listing of a program, from its first number on by what tells of each number its record and the next one.
+pub(crate) fn listing<F>(rt: &impl Print, first: Option<u32>, mut tell: F) -> io::Result<()>
+where
+    F: FnMut(u32) -> Option<(Record, Option<u32>)>,
+    requires { F.IsAlwaysCallable tell }
+{
+    let mut at = first;
     for _ in 0..1024 {
         let Some(n) = at else {
             break;
         };
-        print!(rt; "  {n:>2}  ")?;
-        record(rt, program::reading::record_at(store, n))?;
-        println!(rt; "")?;
-        at = program::reading::next_of(store, n);
+        let Some((what, next)) = tell(n) else {
+            break;
+        };
+        println!(rt; "  {n:>2}  {what}")?;
+        at = next;
     }
     Ok(())
 }
@@ -93,17 +74,19 @@ pub fn price(rt: &impl Print, title: &str, answer: Result<u32, RunFault>) -> io:
     print!(rt; "  {title}: ")?;
     match answer {
         Ok(price) => println!(rt; "{price}"),
-        Err(fault) => refusal(rt, fault.report()),
+        Err(fault) => refusal(rt, fault),
     }
 }
 
 pub fn outputs(rt: &impl Print, answer: Result<u32, RunFault>, output: &[u32]) -> io::Result<()> {
     let count = match answer {
         Ok(count) => count as usize,
-        Err(fault) => return refusal(rt, fault.report()),
+        Err(fault) => return refusal(rt, fault),
     };
-    for i in 0..count.min(output.len() / 2) {
-        println!(rt; "  channel {} gets {}", output[2 * i], output[2 * i + 1])?;
+    for pair in output.chunks_exact(2).take(count) {
+        if let [channel, value] = pair {
+            println!(rt; "  channel {channel} gets {value}")?;
+        }
     }
     Ok(())
 }
@@ -116,16 +99,11 @@ fn anchor(rt: &impl Print, before: Option<u32>) -> io::Result<()> {
     }
 }
 
-fn record_of(rt: &impl Print, verb: &str, n: u32, what: Record) -> io::Result<()> {
-    print!(rt; "{verb} {n} as ")?;
-    record(rt, what)
-}
-
 pub fn call(rt: &impl Print, call: Call) -> io::Result<()> {
     print!(rt; "  ")?;
     match call {
-        Call::Make(n, what) => record_of(rt, "make", n, what),
-        Call::Rewrite(n, what) => record_of(rt, "rewrite", n, what),
+        Call::Make(n, what) => print!(rt; "make {n} as {what}"),
+        Call::Rewrite(n, what) => print!(rt; "rewrite {n} as {what}"),
         Call::Place(n, before) => {
             print!(rt; "place {n} ")?;
             anchor(rt, before)
@@ -145,32 +123,11 @@ pub fn call(rt: &impl Print, call: Call) -> io::Result<()> {
 // The depth is answered by a save or a hold alone.
 pub fn reply(rt: &impl Print, reply: Reply) -> io::Result<()> {
     match reply {
-        Reply::Accepted(0) => println!(rt; ": accepted"),
-        Reply::Accepted(depth) => println!(rt; ": depth {depth}"),
-        Reply::Refused(fault) => {
+        Ok(0) => println!(rt; ": accepted"),
+        Ok(depth) => println!(rt; ": depth {depth}"),
+        Err(fault) => {
             print!(rt; ": ")?;
-            refusal(rt, fault.report())
+            refusal(rt, fault)
         }
     }
-}
-
-// The listing of a session's program.
-pub fn listing_of<S: Store, M>(rt: &impl Print, session: &mut Session<S, M>) -> io::Result<()> {
-    let mut at = session.first();
-    for _ in 0..1024 {
-        let Some(n) = at else {
-            break;
-        };
-        let Ok(what) = session.read(n) else {
-            break;
-        };
-        print!(rt; "  {n:>2}  ")?;
-        record(rt, what)?;
-        println!(rt; "")?;
-        at = match session.next(n) {
-            Ok(next) => next,
-            Err(_) => None,
-        };
-    }
-    Ok(())
 }

@@ -1,18 +1,9 @@
-use Rattle.std.proofs.Common.{◌≡◌, ◌<◌, length, subst, arith}
-use Rattle.history.specs.Entering.{Made}
-use Rattle.history.proofs.Lists.{made_none, made_more}
+use Rattle.std.proofs.Common.{◌<◌, length, arith}
+use Rattle.history.proofs.Lists.{made_more}
 use Rattle.history.proofs.answer_all.Goals as goal
-
-pub loop-i-init : goal.loop-i-init
-loop-i-init g c = made_none g.S.Store.program c.args.calls.now c.args.session.now c.args.replies.now
 
 pub loop-i-preserved : goal.loop-i-preserved
 loop-i-preserved g c =
     let room : c.loop-i.i < length c.loop-i.replies = omega (arith, c.loop-i-test.true, c.loop-i.auto.replies, c.requires) in
     made_more g.S.Store.program c.args.calls.now c.loop-i.i c.args.session.now c.loop-i.session c.call.new.self c.args.replies.now c.loop-i.replies
     c.index-calls-i.result c.call.result c.loop-i-test.true room c.index-calls-i.is c.loop-i.invariant c.call.ensures
-
-pub returns : goal.returns
-returns g c =
-    let e : c.loop-i.i ≡ length c.args.calls.now = omega (arith, c.loop-i-test.false, c.loop-i.auto.i-end) in
-    subst (λ n. Made g.S.Store.program n c.args.calls.now c.args.session.now c.loop-i.session c.args.replies.now c.loop-i.replies) e c.loop-i.invariant

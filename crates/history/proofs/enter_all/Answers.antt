@@ -25,5 +25,5 @@ returns g c =
       c.answer_all.ensures.behind,
       subst (λ (rs : List Answer). Repeats p acts rs (program c.answer_all.new.session.store)) (sym got)
           (subst (λ q. Repeats p acts (answers acts (fresh p)) q) (sym built) (repeats p acts)),
-      uses_read (program c.answer_all.new.session.store) (g.S.Store.proper c.answer_all.new.session.store),
+      uses_read (program c.answer_all.new.session.store) (g.met.S.Store.proper c.answer_all.new.session.store),
     )

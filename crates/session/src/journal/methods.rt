@@ -1,11 +1,12 @@
 // What a session does with its journal.
-ghost use Rattle.std.specs.Prelude.{◌≡◌, ◌-◌, ◌<◌, ◌≤◌, Bool, [], ◌∷◌, length, if◌then◌else◌, nat_lt};
+ghost use Rattle.std.specs.Prelude.{◌≡◌, [], ◌∷◌, length, if◌then◌else◌, is_ok};
 ghost use Rattle.edits.specs.Commands.{edit_of};
 ghost use Rattle.session.specs.Stack.{top, rest};
-ghost use Rattle.session.specs.Trail.{room, roomy, noted, kept, Popped};
+ghost use Rattle.session.specs.Trail.{granted, deepened, noted, closable, kept, Popped};
 ghost use Rattle.session.specs.Meaning.{trail, marks};
 
 use super::Journal;
+use crate::fault::SessionFault;
 use crate::mark::Mark;
 use edits::command::Command;
 
@@ -23,63 +24,70 @@ impl Journal {
     }
 
     // How many saves there are.
-    pub(crate) fn depth(&self) -> u32
+    fn depth(&self) -> u32
         ensures { result ≡ length (marks self.now) }
     {
         self.depth as u32
     }
 
-    // Whether so many edits can be noted: without a save they need not be.
-    pub(crate) fn has_room(&self, need: u32) -> bool
-        ensures { result ≡ roomy (marks self.now) (trail self.now) need }
+    // Whether there are records for so many edits: without a save none are needed.
+    pub(crate) fn check_room(&self, need: u32) -> Result<(), SessionFault>
+        ensures { result ≡ granted (marks self.now) (trail self.now) need }
     {
-        if self.depth == 0 {
-            return true;
+        if self.depth > 0 && 512 - self.len < need as usize {
+            return Err(SessionFault::TooFewRecords(need));
         }
-        need as usize <= 512 - self.len
+        Ok(())
     }
 
-    // Notes what takes an edit back while a save is present; false where all records are in use.
-    pub(crate) fn push(&mut self, back: Command) -> bool
-        ensures room { result ≡ room (marks self.old) (trail self.old) }
+    // Notes what takes an edit back while a save is present.
+    pub(crate) fn push(&mut self, back: Command) -> Result<(), SessionFault>
+        ensures room { result ≡ granted (marks self.old) (trail self.old) 1 }
         ensures records { trail self.new ≡ noted (marks self.old) (edit_of back) (trail self.old) }
         ensures saves { marks self.new ≡ marks self.old }
     {
+        self.check_room(1)?;
         if self.depth == 0 {
-            return true;
+            return Ok(());
         }
-        let at = self.len;
-        if at >= 512 {
-            return false;
-        }
-        self.entries[at] = back;
-        self.len = at + 1;
-        true
+        self.entries[self.len] = back;
+        self.len += 1;
+        Ok(())
     }
 
     // The newest save's mark.
-    pub(crate) fn newest(&self) -> Option<Mark>
+    fn newest(&self) -> Option<Mark>
         ensures { result ≡ top (marks self.now) }
     {
-        if self.depth == 0 {
-            return None;
-        }
-        Some(self.marks[self.depth - 1])
+        self.marks[..self.depth].last().copied()
     }
 
-    // A save more, marked at the journal's end; false where there are eight.
-    pub(crate) fn open(&mut self, held: bool) -> bool
-        ensures room { result ≡ nat_lt (length (marks self.old)) 8 }
-        ensures saves { marks self.new ≡ (if result then (record { at = length (trail self.old); held = held } ∷ marks self.old) else marks self.old) }
+    // Whether the newest save is at the depth and of the kind.
+    pub(crate) fn check_newest(&self, depth: u32, held: bool) -> Result<(), SessionFault>
+        ensures { result ≡ closable (marks self.now) depth held }
+    {
+        let mark = self.newest().ok_or(SessionFault::NotNewest(depth))?;
+        if depth != self.depth() {
+            return Err(SessionFault::NotNewest(depth));
+        }
+        if mark.held != held {
+            return Err(SessionFault::WrongKind(depth));
+        }
+        Ok(())
+    }
+
+    // A save more, marked at the journal's end; there are at most eight.
+    pub(crate) fn open(&mut self, held: bool) -> Result<u32, SessionFault>
+        ensures depth { result ≡ deepened (marks self.old) }
+        ensures saves { marks self.new ≡ (if is_ok result then (record { at = length (trail self.old); held = held } ∷ marks self.old) else marks self.old) }
         ensures records { trail self.new ≡ trail self.old }
     {
-        let depth = self.depth;
-        if depth >= 8 {
-            return false;
+        if self.depth >= 8 {
+            return Err(SessionFault::TooDeep(self.depth()));
         }
-        self.marks[depth] = Mark { at: self.len, held };
-        self.depth = depth + 1;
-        true
+        self.marks[self.depth] = Mark { at: self.len, held };
+        self.depth += 1;
+        Ok(self.depth())
     }
 
     // The newest record, taken off if it was noted since the newest save.
@@ -87,9 +95,7 @@ impl Journal {
         ensures records { Popped (marks self.old) (trail self.old) (trail self.new) result }
         ensures saves { marks self.new ≡ marks self.old }
     {
-        let Some(mark) = self.newest() else {
-            return None;
-        };
+        let mark = self.newest()?;
         if self.len <= mark.at {
             return None;
         }
@@ -102,9 +108,9 @@ impl Journal {
         ensures saves { marks self.new ≡ rest (marks self.old) }
         ensures records { trail self.new ≡ kept (rest (marks self.old)) (trail self.old) }
     {
-        let depth = self.depth.saturating_sub(1);
-        let len = if depth == 0 { 0 } else { self.len };
-        self.depth = depth;
-        self.len = len;
+        self.depth = self.depth.saturating_sub(1);
+        if self.depth == 0 {
+            self.len = 0;
+        }
     }
 }

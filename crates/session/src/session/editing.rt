@@ -10,7 +10,7 @@ use super::Session;
 use crate::fault::SessionFault;
 use crate::journal::Journal;
 use edits::command::{Command, apply, opposite};
-use edits::replacing::{replace_refused, swapped};
+use edits::replacing::{check_replace, swapped};
 use ir::instruction::Record;
 use program::reading::{first_use, record_at, use_count};
 use program::store::Store;
@@ -31,13 +31,13 @@ impl<S: Store, M> Session<S, M> {
     pub(crate) fn edit(&mut self, command: Command) -> Result<(), SessionFault>
         ensures { Stepped S.program (edit_step (edit_of command)) self.old self.new result }
     {
-        let back = opposite(&mut self.store, command);
+        let back = opposite(&self.store, command);
         apply(&mut self.store, command)?;
-        if self.journal.push(back) {
-            return Ok(());
+        if let Err(fault) = self.journal.push(back) {
+            let _ = apply(&mut self.store, back);
+            return Err(fault);
         }
-        let _ = apply(&mut self.store, back);
-        Err(SessionFault::TooFewRecords(1))
+        Ok(())
     }
 
     // Gives a free number a record; it is then loose.
@@ -80,9 +80,8 @@ impl<S: Store, M> Session<S, M> {
         requires { Ready n m (meaning S.program self.old) }
         ensures { meaning S.program self.new ≡ swept n m (meaning S.program self.old) }
     {
-        while let Some(found) = first_use(&mut self.store, n) {
-            let (user, position) = found;
-            let what = swapped(record_at(&mut self.store, user), position, m);
+        while let Some((user, position)) = first_use(&self.store, n) {
+            let what = swapped(record_at(&self.store, user), position, m);
             let _ = self.edit(Command::Rewrite(user, what));
         }
     }
@@ -91,13 +90,8 @@ impl<S: Store, M> Session<S, M> {
     pub fn replace(&mut self, n: u32, m: u32) -> Result<(), SessionFault>
         ensures { Stepped S.program (replace_step n m) self.old self.new result }
     {
-        if let Some(fault) = replace_refused(&mut self.store, n, m) {
-            return Err(SessionFault::Store(fault));
-        }
-        let need = use_count(&mut self.store, n);
-        if !self.journal.has_room(need) {
-            return Err(SessionFault::TooFewRecords(need));
-        }
+        check_replace(&self.store, n, m)?;
+        self.journal.check_room(use_count(&self.store, n))?;
         self.swap_uses(n, m);
         Ok(())
     }

@@ -17,7 +17,7 @@ impl<S: Store, M: CostModel> Session<S, M> {
         ensures scratch { scratch.new ≡ zeros (length scratch.old) }
         ensures form { FormLaw (S.program self.old.store) }
     {
-        runs::pricing::price::<S, M>(&mut self.store, scratch)
+        runs::pricing::price::<S, M>(&self.store, scratch)
     }
 
     // A run on sixteen input words.
@@ -32,6 +32,6 @@ impl<S: Store, M: CostModel> Session<S, M> {
         ensures scratch { scratch.new ≡ zeros (length scratch.old) }
         ensures meaning { RunLaw (S.program self.old.store) inputs.now }
     {
-        runs::running::run(&mut self.store, inputs, scratch, output)
+        runs::running::run(&self.store, inputs, scratch, output)
     }
 }

@@ -1,50 +1,28 @@
 // Saves: opened, held, accepted and reverted.
-ghost use Rattle.std.specs.Prelude.{◌≡◌, true, false};
+ghost use Rattle.std.specs.Prelude.{true, false};
 ghost use Rattle.session.specs.Copying.{open_step, accept_step, revert_step, answering};
-ghost use Rattle.session.specs.Trail.{closable};
-ghost use Rattle.session.specs.Meaning.{Stepped, Rewound, marks};
+ghost use Rattle.session.specs.Meaning.{Stepped, Rewound};
 ghost use Rattle.session.specs.Tokens.{with_token, handed_back};
 
 use super::Session;
 use crate::fault::SessionFault;
-use crate::mark::Mark;
 use crate::token::Token;
 use edits::command::apply;
 use program::store::Store;
 
 impl<S: Store, M> Session<S, M> {
+    // Opens a save of the kind and answers the new depth.
     fn open(&mut self, held: bool) -> Result<u32, SessionFault>
         ensures { Stepped S.program (open_step held) self.old self.new result }
     {
-        let depth = self.journal.depth();
-        if self.journal.open(held) {
-            Ok(depth + 1)
-        } else {
-            Err(SessionFault::TooDeep(depth))
-        }
+        self.journal.open(held)
     }
 
-    // Opens a save and answers the new depth.
+    // Opens a save that a depth closes, and answers the new depth.
     pub fn save(&mut self) -> Result<u32, SessionFault>
         ensures { Stepped S.program (open_step false) self.old self.new result }
     {
         self.open(false)
-    }
-
-    // Whether the newest save is at the depth and of the kind.
-    fn closing(&self, depth: u32, held: bool) -> Result<(), SessionFault>
-        ensures { result ≡ closable (marks self.now.journal) depth held }
-    {
-        let Some(mark) = self.journal.newest() else {
-            return Err(SessionFault::NotNewest(depth));
-        };
-        if depth != self.journal.depth() {
-            return Err(SessionFault::NotNewest(depth));
-        }
-        if mark.held != held {
-            return Err(SessionFault::WrongKind(depth));
-        }
-        Ok(())
     }
 
     // Takes back every edit since the newest save, the newest first.
@@ -56,18 +34,20 @@ impl<S: Store, M> Session<S, M> {
         }
     }
 
+    // Removes the newest save, if it is at the depth and of the kind.
     fn close_kept(&mut self, depth: u32, held: bool) -> Result<(), SessionFault>
         ensures { Stepped S.program (accept_step depth held) self.old self.new result }
     {
-        self.closing(depth, held)?;
+        self.journal.check_newest(depth, held)?;
         self.journal.close();
         Ok(())
     }
 
+    // The same, and takes back what was done since.
     fn close_undone(&mut self, depth: u32, held: bool) -> Result<(), SessionFault>
         ensures { Stepped S.program (revert_step depth held) self.old self.new result }
     {
-        self.closing(depth, held)?;
+        self.journal.check_newest(depth, held)?;
         self.rewind();
         self.journal.close();
         Ok(())
@@ -100,10 +80,8 @@ impl<S: Store, M> Session<S, M> {
         ensures { Stepped S.program (answering (handed_back token) (accept_step token.depth true)) self.old self.new result }
     {
         let Token { depth } = token;
-        match self.close_kept(depth, true) {
-            Ok(()) => Ok(()),
-            Err(fault) => Err((fault, Token { depth })),
-        }
+        self.close_kept(depth, true)
+            .map_err(|fault| (fault, Token { depth }))
     }
 
     // The same, and brings back what the save keeps.
@@ -111,9 +89,7 @@ impl<S: Store, M> Session<S, M> {
         ensures { Stepped S.program (answering (handed_back token) (revert_step token.depth true)) self.old self.new result }
     {
         let Token { depth } = token;
-        match self.close_undone(depth, true) {
-            Ok(()) => Ok(()),
-            Err(fault) => Err((fault, Token { depth })),
-        }
+        self.close_undone(depth, true)
+            .map_err(|fault| (fault, Token { depth }))
     }
 }

@@ -1,6 +1,5 @@
-use Rattle.std.proofs.Common.{◌<◌, length, Some, None, sym, ap, ◌∙◌, arith}
-use Rattle.program.specs.Uses.{least_beyond}
-use Rattle.flat.proofs.Usage.{uses_end, least_step}
+use Rattle.std.proofs.Common.{◌<◌, length, Some, None, ◌∙◌, arith}
+use Rattle.flat.proofs.Usage.{least_step}
 use Rattle.flat.proofs.uses.least_use.Goals as goal
 
 pub returns-in-Some : goal.returns-in-Some
@@ -14,7 +13,3 @@ loop-i-preserved c =
     let h : c.loop-i.i < length c.args.cells.now = omega arith in
     least_step c.args.n c.args.cells.now c.loop-i.i c.index-cells-i.result h c.index-cells-i.is c.args.after None c.in_default.ensures
     ∙ c.loop-i.invariant
-
-pub returns : goal.returns
-returns c =
-    sym (ap (least_beyond c.args.after) (uses_end c.args.n c.args.cells.now c.loop-i.i (omega arith))) ∙ c.loop-i.invariant

@@ -1,6 +1,6 @@
-use Rattle.std.proofs.Common.{◌<◌, ◌≤◌, length, refl, arith}
+use Rattle.std.proofs.Common.{◌≤◌, length, refl, arith}
 use Rattle.std.proofs.lemmas.List.{drop-set-lt}
-use Rattle.history.proofs.Piles.{piled_work, piled_begin, piled_accept, piled_revert}
+use Rattle.history.proofs.Piles.{piled_work, piled_accept, piled_revert}
 use Rattle.history.proofs.survivors.follow.Goals as goal
 
 pub returns-in-Work : goal.returns-in-Work
@@ -9,16 +9,7 @@ returns-in-Work c =
     let kept = c.args.kept.now in (
       c.requires.0,
       λ n h. drop-set-lt n kept p.len c.args.call h,
-      λ b h. piled_work kept p.starts p.depth p.len c.args.call c.args.reply c.in-Accepted.field-0 b c.in-Accepted.is c.in-Work.ensures c.requires.1 h,
-    )
-
-pub returns-else-pile-eq8 : goal.returns-else-pile-eq8
-returns-else-pile-eq8 c =
-    let p = c.args.pile.now in
-    let room : p.depth < length p.starts = omega arith in (
-      omega arith,
-      λ n h. refl,
-      λ b h. piled_begin c.args.kept.now p.starts p.depth p.len c.args.call c.args.reply c.in-Accepted.field-0 b c.in-Accepted.is c.in-Begin.ensures room h,
+      λ b h. piled_work kept p.starts p.depth p.len c.args.call c.args.reply c.in-Ok.field-0 b c.in-Ok.is c.in-Work.ensures c.requires.1 h,
     )
 
 pub returns-then-pile-gt0 : goal.returns-then-pile-gt0
@@ -27,7 +18,7 @@ returns-then-pile-gt0 c =
     let room : p.depth ≤ length p.starts = omega arith in (
       omega arith,
       λ n h. refl,
-      λ b h. piled_accept c.args.kept.now p.starts p.depth p.len c.args.call c.args.reply c.in-Accepted.field-0 b c.in-Accepted.is c.in-Accept.ensures c.if-pile-gt0.true room h,
+      λ b h. piled_accept c.args.kept.now p.starts p.depth p.len c.args.call c.args.reply c.in-Ok.field-0 b c.in-Ok.is c.in-Accept.ensures c.if-pile-gt0.true room h,
     )
 
 pub returns-then-pile-gt0-2 : goal.returns-then-pile-gt0-2
@@ -36,5 +27,5 @@ returns-then-pile-gt0-2 c =
     let room : p.depth ≤ length p.starts = omega arith in (
       omega arith,
       λ n h. refl,
-      λ b h. piled_revert c.args.kept.now p.starts p.depth p.len c.args.call c.args.reply c.in-Accepted.field-0 b c.in-Accepted.is c.in-Revert.ensures c.if-pile-gt0-2.true room h,
+      λ b h. piled_revert c.args.kept.now p.starts p.depth p.len c.args.call c.args.reply c.in-Ok.field-0 b c.in-Ok.is c.in-Revert.ensures c.if-pile-gt0-2.true room h,
     )

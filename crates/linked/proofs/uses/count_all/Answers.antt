@@ -7,20 +7,17 @@ use Rattle.linked.proofs.Flats.{node_inside, node_outside}
 use Rattle.linked.proofs.Usage.{listed_length}
 use Rattle.linked.proofs.uses.count_all.Goals as goal
 
-pub slot-next-requires : goal.slot-next-requires
-slot-next-requires c = let e = c.head_of.ensures in omega (arith, e, c.requires.v)
-
 pub loop-next-init : goal.loop-next-init
 loop-next-init c =
     let xs = c.args.cells.now in
-    rest_start (length xs) (table_in xs) (links xs) c.requires.woven c.args.v (place c.slot-next.result) c.requires.v (c.slot-next.ensures ∙ ap (λ k. get_or (links xs) k 0) c.head_of.ensures)
+    rest_start (length xs) (table_in xs) (links xs) c.requires.listed c.args.v (place c.slot-next.result) c.requires.v (c.slot-next.ensures ∙ ap (λ k. get_or (links xs) k 0) c.head.ensures)
 
 pub overflow_add-count : goal.overflow_add-count
 overflow_add-count c =
     let xs = c.args.cells.now in
     let total = length (spots c.args.v 0 (table_in xs)) in
-    let few = c.requires.woven.few in
-    let wide = c.requires.woven.wide_table in
+    let few = c.requires.listed.few in
+    let wide = c.requires.listed.wide_table in
     let most = spots_few c.args.v 0 (table_in xs) in
     let less = (rest_first (length xs) (links xs) total c.loop-next.count (place c.loop-next.next) c.loop-next.invariant (node_inside c.loop-next.next c.loop-next-test.true)).1 in
     omega arith
@@ -28,7 +25,8 @@ overflow_add-count c =
 pub slot-next-requires-in-loop-next : goal.slot-next-requires-in-loop-next
 slot-next-requires-in-loop-next c =
     let xs = c.args.cells.now in
-    (rest_first (length xs) (links xs) (length (spots c.args.v 0 (table_in xs))) c.loop-next.count (place c.loop-next.next) c.loop-next.invariant (node_inside c.loop-next.next c.loop-next-test.true)).0
+    let w = (rest_first (length xs) (links xs) (length (spots c.args.v 0 (table_in xs))) c.loop-next.count (place c.loop-next.next) c.loop-next.invariant (node_inside c.loop-next.next c.loop-next-test.true)).0 in
+    omega arith
 
 pub loop-next-preserved : goal.loop-next-preserved
 loop-next-preserved c =
@@ -45,5 +43,5 @@ loop-next-smaller c =
 pub returns : goal.returns
 returns c =
     let xs = c.args.cells.now in
-    rest_end (length xs) (links xs) (length (spots c.args.v 0 (table_in xs))) c.loop-next.count (place c.loop-next.next) c.requires.woven.few c.loop-next.invariant (node_outside c.loop-next.next c.loop-next-test.false)
-    ∙ listed_length xs c.requires.woven c.args.v c.requires.v
+    rest_end (length xs) (links xs) (length (spots c.args.v 0 (table_in xs))) c.loop-next.count (place c.loop-next.next) c.requires.listed.few c.loop-next.invariant (node_outside c.loop-next.next c.loop-next-test.false)
+    ∙ listed_length xs c.requires.listed c.args.v c.requires.v

@@ -1,20 +1,12 @@
-use Rattle.std.proofs.Common.{length}
+use Rattle.std.proofs.Common.{◌∙◌, ap, length}
 use Rattle.program.specs.Uses.{uses}
-use Rattle.program.proofs.Readings.{busy_value, busy_refused}
+use Rattle.program.specs.Faults.{busy_fault}
+use Rattle.program.proofs.Readings.{read_or, unread_unused}
 use Rattle.program.proofs.reading.use_count.Goals as goal
 
-pub returns-in-Ok : goal.returns-in-Ok
-returns-in-Ok g c =
+pub returns : goal.returns
+returns g c =
     let p = g.S.Store.program c.args.store.now in
-    record {
-      answer = busy_value p c.args.n c.in-Ok.count (length (uses p c.args.n)) c.in-Ok.ensures.answer;
-      after = c.in-Ok.ensures.after;
-    }
-
-pub returns-in-Err : goal.returns-in-Err
-returns-in-Err g c =
-    let p = g.S.Store.program c.args.store.now in
-    record {
-      answer = λ b. absurd (busy_refused p c.args.n c.in-Err.field-0 (length (uses p c.args.n)) c.in-Err.ensures.answer b);
-      after = c.in-Err.ensures.after;
-    }
+    c.unwrap_or.ensures
+    ∙ read_or (busy_fault p c.args.n) (length (uses p c.args.n)) 0 c.count_uses.result c.count_uses.ensures
+    (λ f. ap length (unread_unused p (g.met.S.Store.proper c.args.store.now) c.args.n f))

@@ -1,4 +1,4 @@
-use Rattle.std.proofs.Common.{◌≤◌, length, Some, None, ◌∙◌, arith, rules}
+use Rattle.std.proofs.Common.{◌≤◌, length, Some, None, arith, rules}
 use mathlib.Core.Bool.{false≢true}
 use Rattle.program.specs.Programs.{size}
 use Rattle.runs.proofs.Checks.{too_short, form_found}
@@ -6,8 +6,7 @@ use Rattle.runs.proofs.form.check_form.Goals as goal
 
 pub returns-then-words-size : goal.returns-then-words-size
 returns-then-words-size g c = record {
-  answer = too_short (g.S.Store.program c.args.store.now) (length c.args.words.now) c.size-size.result c.size-size.ensures.answer c.if-words-size.true;
-  after = c.size-size.ensures.after;
+  answer = too_short (g.S.Store.program c.args.store.now) (length c.args.words.now) c.size-size.result c.size-size.ensures c.if-words-size.true;
   cleared = λ e. absurd (false≢true e);
 }
 
@@ -16,9 +15,7 @@ returns-in-Some g c =
     let p = g.S.Store.program c.args.store.now in
     let fits : size p ≤ length c.args.words.now = omega arith in
     record {
-      answer = form_found p (g.S.Store.program c.size-size.new.self) c.size-size.ensures.after (g.S.Store.proper c.args.store.now) (length c.args.words.now) fits
-          c.clear.new.words c.clear.ensures (Some c.in-Some.n) c.in-Some.ensures.answer;
-      after = c.first_broken-found.ensures.after ∙ c.size-size.ensures.after;
+      answer = form_found p (g.met.S.Store.proper c.args.store.now) (length c.args.words.now) fits c.clear.new.words c.clear.ensures (Some c.in-Some.n) c.in-Some.ensures;
       cleared = λ e. absurd (false≢true e);
     }
 
@@ -27,8 +24,6 @@ returns-in-None g c =
     let p = g.S.Store.program c.args.store.now in
     let fits : size p ≤ length c.args.words.now = omega arith in
     record {
-      answer = form_found p (g.S.Store.program c.size-size.new.self) c.size-size.ensures.after (g.S.Store.proper c.args.store.now) (length c.args.words.now) fits
-          c.clear.new.words c.clear.ensures None c.in-None.ensures.answer;
-      after = c.first_broken-found.ensures.after ∙ c.size-size.ensures.after;
+      answer = form_found p (g.met.S.Store.proper c.args.store.now) (length c.args.words.now) fits c.clear.new.words c.clear.ensures None c.in-None.ensures;
       cleared = λ e. search rules;
     }

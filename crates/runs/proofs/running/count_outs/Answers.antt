@@ -4,6 +4,6 @@ use Rattle.runs.proofs.running.count_outs.Goals as goal
 
 pub overflow_add-count : goal.overflow_add-count
 overflow_add-count g c =
-    let most = few_outs (g.S.Store.program c.start-cursor.new.store) (g.S.Store.proper c.start-cursor.new.store) in
+    let most = few_outs (g.S.Store.program c.args.store.now) (g.met.S.Store.proper c.args.store.now) in
     let one = byte_bound c.is_out.result in
-    omega (arith, c.from-count.ensures, c.loop-placed.invariant.2)
+    omega (arith, c.from-count.ensures, c.loop-what.invariant.1)

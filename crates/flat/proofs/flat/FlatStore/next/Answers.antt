@@ -1,8 +1,7 @@
-use Rattle.flat.proofs.Held.{taken_sound, taken_fields}
+use Rattle.std.proofs.Common.{arith}
+use Rattle.flat.proofs.Held.{sound}
+use Rattle.flat.proofs.Neighbours.{index_small}
 use Rattle.flat.proofs.flat.FlatStore.next.Goals as goal
 
-pub next-r-requires : goal.next-r-requires
-next-r-requires c = taken_sound c.args.self.now c.replace-cells.result c.replace-cells.ensures.value
-
-pub invariant_of-self : goal.invariant_of-self
-invariant_of-self c = taken_fields c.args.self.now c.replace-cells.result c.replace-cells.ensures.value
+pub overflow_add-place_of : goal.overflow_add-place_of
+overflow_add-place_of c = let b = index_small c.args.self.now.cells.now (sound c.args.self.now) c.args.n in omega arith

@@ -1,8 +1,8 @@
-use Rattle.flat.proofs.Held.{taken_sound, taken_fields}
+use Rattle.std.proofs.Common.{ap, ◌∙◌}
+use Rattle.flat.specs.FlatModel.{content}
+use Rattle.program.proofs.Faults.{allowed}
+use Rattle.flat.proofs.Accepted.{read_held}
 use Rattle.flat.proofs.flat.FlatStore.read.Goals as goal
 
-pub read-r-requires : goal.read-r-requires
-read-r-requires c = taken_sound c.args.self.now c.replace-cells.result c.replace-cells.ensures.value
-
-pub invariant_of-self : goal.invariant_of-self
-invariant_of-self c = taken_fields c.args.self.now c.replace-cells.result c.replace-cells.ensures.value
+pub returns : goal.returns
+returns c = read_held c.args.self.now.cells.now c.args.n (allowed _ _ c.in_ok-busy.ensures) c.record.result (c.record.ensures ∙ ap content c.cell_at.ensures) c.ok_or.result c.ok_or.ensures.value

@@ -1,11 +1,5 @@
-use Rattle.flat.proofs.Held.{taken_sound, taken_kept, fields}
+use Rattle.flat.proofs.Held.{kept, fields}
 use Rattle.flat.proofs.flat.FlatStore.unmake.Goals as goal
 
-pub unmake-r-requires : goal.unmake-r-requires
-unmake-r-requires c = taken_sound c.args.self.now c.replace-cells.result c.replace-cells.ensures.value
-
 pub invariant_of-self : goal.invariant_of-self
-invariant_of-self c =
-    let e = c.unmake-r.ensures in
-    let kept = taken_kept c.args.self.now c.replace-cells.result c.replace-cells.ensures.value in
-    fields c.unmake-r.new.cells e.sound _ e.after (kept.by_unmake c.args.n)
+invariant_of-self c = let e = c.unmake-2.ensures in fields c.unmake-2.new.cells e.sound _ e.after ((kept c.args.self.now).by_unmake c.args.n)

@@ -3,7 +3,8 @@ use Rattle.std.proofs.lemmas.List.{length-take}
 use Rattle.program.specs.Programs.{new_program}
 use Rattle.program.proofs.Keeping.{new_is_proper}
 use Rattle.linked.specs.LinkedModel.{linked_program}
-use Rattle.linked.specs.Sound.{Sound, blank_cell}
+use Rattle.linked.specs.Slots.{blank_cell}
+use Rattle.linked.proofs.Ordering.{Sound}
 use Rattle.linked.proofs.Fresh.{sound_fresh, program_fresh}
 use Rattle.linked.proofs.Held.{fields}
 use Rattle.linked.proofs.linked.Linked.new.Goals as goal

@@ -1,8 +1,5 @@
-use Rattle.linked.proofs.Held.{taken_sound, taken_fields}
+use Rattle.linked.proofs.Held.{store_sound}
 use Rattle.linked.proofs.linked.LinkedStore.count_uses.Goals as goal
 
-pub count_uses-r-requires : goal.count_uses-r-requires
-count_uses-r-requires c = taken_sound c.args.self.now c.replace-cells.result c.replace-cells.ensures.value
-
-pub invariant_of-self : goal.invariant_of-self
-invariant_of-self c = taken_fields c.args.self.now c.replace-cells.result c.replace-cells.ensures.value
+pub count_all-requires-clause-listed : goal.count_all-requires-clause-listed
+count_all-requires-clause-listed c = (store_sound c.args.self.now).listed

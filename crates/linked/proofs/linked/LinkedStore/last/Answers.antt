@@ -1,8 +1,7 @@
-use Rattle.linked.proofs.Held.{taken_sound, taken_fields}
+use Rattle.std.proofs.Common.{sym, ◌∙◌}
+use Rattle.linked.proofs.Ordering.{last_number}
+use Rattle.linked.proofs.Held.{store_sound}
 use Rattle.linked.proofs.linked.LinkedStore.last.Goals as goal
 
-pub last-r-requires : goal.last-r-requires
-last-r-requires c = taken_sound c.args.self.now c.replace-cells.result c.replace-cells.ensures.value
-
-pub invariant_of-self : goal.invariant_of-self
-invariant_of-self c = taken_fields c.args.self.now c.replace-cells.result c.replace-cells.ensures.value
+pub returns : goal.returns
+returns c = let s = c.args.self.now in c.number_of.ensures ∙ sym (last_number s.cells.now s.ends.next s.ends.prev (store_sound s).linked)

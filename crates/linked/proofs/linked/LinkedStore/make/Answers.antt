@@ -1,25 +1,16 @@
-use Rattle.std.proofs.Common.{ap, ◌∙◌}
-use Rattle.ir.specs.Instructions.{plain}
-use Rattle.program.specs.Faults.{make_fault}
-use Rattle.program.specs.Commands.{verdict, after_make}
-use Rattle.linked.proofs.Held.{taken_sound, taken_program, taken_kept, fields}
+use Rattle.linked.specs.declared.cells.Body.TheVariants.{Idle}
+use Rattle.program.proofs.Faults.{allowed, refused}
+use Rattle.linked.proofs.Held.{put_ready, make_may, make_leaves}
 use Rattle.linked.proofs.linked.LinkedStore.make.Goals as goal
 
-pub make-r-requires : goal.make-r-requires
-make-r-requires c = taken_sound c.args.self.now c.replace-cells.result c.replace-cells.ensures.value
+pub returns-in_err-make-clause-after : goal.returns-in_err-make-clause-after
+returns-in_err-make-clause-after c = refused _ _ _ _ c.in_err-make.ensures
+
+pub put-requires : goal.put-requires
+put-requires c = let s = c.args.self.now in put_ready s c.args.n (Idle c.args.what) (make_may s c.args.n c.args.what (allowed _ _ c.in_ok-make.ensures))
 
 pub invariant_of-self : goal.invariant_of-self
-invariant_of-self c =
-    let e = c.make-r.ensures in
-    let kept = taken_kept c.args.self.now c.replace-cells.result c.replace-cells.ensures.value in
-    fields c.make-r.new.cells c.args.self.now.ends.first c.args.self.now.ends.last e.sound _ e.after (kept.by_make c.args.n (plain c.args.what) c.args.what.shaped)
+invariant_of-self c = let w = c.put.ensures in (make_leaves c.args.self.now c.args.n c.args.what (allowed _ _ c.in_ok-make.ensures) c.put.new.cells w.listed w.order w.bodies).1
 
-pub returns : goal.returns
-returns c =
-    let t = taken_program c.args.self.now c.replace-cells.result c.replace-cells.ensures.value in
-    let n = c.args.n in
-    let i = plain c.args.what in
-    record {
-      answer = c.make-r.ensures.answer ∙ ap (λ p. verdict (make_fault p n i)) t;
-      after = c.make-r.ensures.after ∙ ap (λ p. after_make p n i) t;
-    }
+pub returns-clause-after : goal.returns-clause-after
+returns-clause-after c = let w = c.put.ensures in (make_leaves c.args.self.now c.args.n c.args.what (allowed _ _ c.in_ok-make.ensures) c.put.new.cells w.listed w.order w.bodies).0

@@ -1,8 +1,20 @@
-use Rattle.linked.proofs.Held.{taken_sound, taken_fields}
+use Rattle.std.proofs.Common.{length, sym, ap, ◌∙◌}
+use Rattle.program.specs.Readings.{prior}
+use Rattle.program.specs.Programs.{index_of}
+use Rattle.program.specs.Faults.{placed_fault}
+use Rattle.program.proofs.Faults.{answered_none, allowed}
+use Rattle.linked.specs.LinkedModel.{linked_program}
+use Rattle.linked.specs.Reading.{node_number}
+use Rattle.linked.proofs.Ordering.{previous_number}
+use Rattle.linked.proofs.Held.{store_sound}
 use Rattle.linked.proofs.linked.LinkedStore.previous.Goals as goal
 
-pub previous-r-requires : goal.previous-r-requires
-previous-r-requires c = taken_sound c.args.self.now c.replace-cells.result c.replace-cells.ensures.value
-
-pub invariant_of-self : goal.invariant_of-self
-invariant_of-self c = taken_fields c.args.self.now c.replace-cells.result c.replace-cells.ensures.value
+pub returns : goal.returns
+returns c =
+    let s = c.args.self.now in
+    let xs = s.cells.now in
+    let n = c.args.n in
+    let P = linked_program xs s.ends.next in
+    let e = allowed (placed_fault P n) _ c.in_ok-placed.ensures in
+    answered_none (placed_fault P n) c.number_of.result (prior P.order (index_of n P.order)) (sym e)
+    (c.number_of.ensures ∙ ap (node_number (length xs)) c.links_at-links.ensures.prev ∙ sym (previous_number xs s.ends.next s.ends.prev (store_sound s).linked n e))

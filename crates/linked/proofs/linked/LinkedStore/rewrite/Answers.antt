@@ -1,25 +1,23 @@
 use Rattle.std.proofs.Common.{ap, ◌∙◌}
-use Rattle.ir.specs.Instructions.{plain}
-use Rattle.program.specs.Faults.{rewrite_fault}
-use Rattle.program.specs.Commands.{verdict, after_rewrite}
-use Rattle.linked.proofs.Held.{taken_sound, taken_program, taken_kept, fields}
+use Rattle.linked.specs.Making.{body_with}
+use Rattle.program.proofs.Faults.{allowed, refused}
+use Rattle.linked.proofs.Held.{put_ready, rewrite_may, rewrite_leaves}
 use Rattle.linked.proofs.linked.LinkedStore.rewrite.Goals as goal
 
-pub rewrite-r-requires : goal.rewrite-r-requires
-rewrite-r-requires c = taken_sound c.args.self.now c.replace-cells.result c.replace-cells.ensures.value
+pub returns-in_err-rewrite-clause-after : goal.returns-in_err-rewrite-clause-after
+returns-in_err-rewrite-clause-after c = refused _ _ _ _ c.in_err-rewrite.ensures
+
+pub put-requires : goal.put-requires
+put-requires c =
+    let s = c.args.self.now in
+    put_ready s c.args.n c.rewritten-body.result (rewrite_may s c.args.n c.args.what c.rewritten-body.result (c.rewritten-body.ensures ∙ ap (λ b. body_with b c.args.what) c.body.ensures) (allowed _ _ c.in_ok-rewrite.ensures))
 
 pub invariant_of-self : goal.invariant_of-self
 invariant_of-self c =
-    let e = c.rewrite-r.ensures in
-    let kept = taken_kept c.args.self.now c.replace-cells.result c.replace-cells.ensures.value in
-    fields c.rewrite-r.new.cells c.args.self.now.ends.first c.args.self.now.ends.last e.sound _ e.after (kept.by_rewrite c.args.n (plain c.args.what) c.args.what.shaped)
+    let w = c.put.ensures in
+    (rewrite_leaves c.args.self.now c.args.n c.args.what c.rewritten-body.result (c.rewritten-body.ensures ∙ ap (λ b. body_with b c.args.what) c.body.ensures) (allowed _ _ c.in_ok-rewrite.ensures) c.put.new.cells w.listed w.order w.bodies).1
 
-pub returns : goal.returns
-returns c =
-    let t = taken_program c.args.self.now c.replace-cells.result c.replace-cells.ensures.value in
-    let n = c.args.n in
-    let i = plain c.args.what in
-    record {
-      answer = c.rewrite-r.ensures.answer ∙ ap (λ p. verdict (rewrite_fault p n i)) t;
-      after = c.rewrite-r.ensures.after ∙ ap (λ p. after_rewrite p n i) t;
-    }
+pub returns-clause-after : goal.returns-clause-after
+returns-clause-after c =
+    let w = c.put.ensures in
+    (rewrite_leaves c.args.self.now c.args.n c.args.what c.rewritten-body.result (c.rewritten-body.ensures ∙ ap (λ b. body_with b c.args.what) c.body.ensures) (allowed _ _ c.in_ok-rewrite.ensures) c.put.new.cells w.listed w.order w.bodies).0

@@ -1,11 +1,13 @@
-use Rattle.linked.proofs.Held.{taken_sound, taken_kept, fields}
+use Rattle.linked.specs.declared.cells.Body.TheVariants.{Vacant}
+use Rattle.program.proofs.Faults.{allowed}
+use Rattle.linked.proofs.Held.{put_ready, unmake_may, unmake_leaves}
 use Rattle.linked.proofs.linked.LinkedStore.unmake.Goals as goal
 
-pub unmake-r-requires : goal.unmake-r-requires
-unmake-r-requires c = taken_sound c.args.self.now c.replace-cells.result c.replace-cells.ensures.value
+pub put-requires : goal.put-requires
+put-requires c = let s = c.args.self.now in put_ready s c.args.n Vacant (unmake_may s c.args.n (allowed _ _ c.in_ok-unmake.ensures))
 
 pub invariant_of-self : goal.invariant_of-self
-invariant_of-self c =
-    let e = c.unmake-r.ensures in
-    let kept = taken_kept c.args.self.now c.replace-cells.result c.replace-cells.ensures.value in
-    fields c.unmake-r.new.cells c.args.self.now.ends.first c.args.self.now.ends.last e.sound _ e.after (kept.by_unmake c.args.n)
+invariant_of-self c = let w = c.put.ensures in (unmake_leaves c.args.self.now c.args.n (allowed _ _ c.in_ok-unmake.ensures) c.put.new.cells w.listed w.order w.bodies).1
+
+pub returns-clause-after : goal.returns-clause-after
+returns-clause-after c = let w = c.put.ensures in (unmake_leaves c.args.self.now c.args.n (allowed _ _ c.in_ok-unmake.ensures) c.put.new.cells w.listed w.order w.bodies).0

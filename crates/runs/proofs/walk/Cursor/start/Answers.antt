@@ -6,9 +6,8 @@ use Rattle.runs.proofs.walk.Cursor.start.Goals as goal
 pub returns : goal.returns
 returns g c =
     let p = g.S.Store.program c.args.store.now in
-    let t = g.S.Store.proper c.args.store.now in
+    let t = g.met.S.Store.proper c.args.store.now in
     record {
-      whole = ap (λ x. from x p.order) c.first.ensures.answer ∙ from_first p t;
-      stands = subst (λ x. Stands x p.order) (sym c.first.ensures.answer) (first_stands p t);
-      after = c.first.ensures.after;
+      whole = ap (λ x. from x p.order) c.first.ensures ∙ from_first p t;
+      stands = subst (λ x. Stands x p.order) (sym c.first.ensures) (first_stands p t);
     }

@@ -1,20 +1,27 @@
-use Rattle.std.proofs.Common.{ltb, ◌∷◌, sym, refl, ap, ◌∙◌}
-use Rattle.std.proofs.lemmas.Bool.{lt-ltb, le-ltb}
+use Rattle.std.proofs.Common.{◌≡◌, ◌∷◌, length, sym, refl, ap, ◌∙◌, arith}
+use Rattle.std.proofs.lemmas.Bool.Decides.{nat_tests}
+use Rattle.session.specs.declared.mark.Mark.{Mark}
 use Rattle.session.specs.Meaning.{marks}
 use Rattle.session.proofs.Rows.{trail_length, marks_length, open_marks, open_fields}
 use Rattle.session.proofs.journal.Journal.open.Goals as goal
 
-pub returns-then-depth-ge8 : goal.returns-then-depth-ge8
-returns-then-depth-ge8 c = record { room = sym (ap (λ n. ltb n 8) (marks_length c.args.self.now) ∙ le-ltb _ _ c.if-depth-ge8.true); saves = refl; records = refl }
+pub returns-then-self-ge8-clause-depth : goal.returns-then-self-ge8-clause-depth
+returns-then-self-ge8-clause-depth c =
+    let d = marks_length c.args.self.now in
+    grind (arith, nat_tests)
 
 pub invariant_of-self : goal.invariant_of-self
-invariant_of-self c = open_fields c.args.self.now (record { at = c.args.self.now.len; held = c.args.held }) refl c.if-depth-ge8.false
+invariant_of-self c = open_fields c.args.self.now (record { at = c.args.self.now.len; held = c.args.held }) refl c.if-self-ge8.false
 
-pub returns : goal.returns
-returns c =
+pub returns-clause-depth : goal.returns-clause-depth
+returns-clause-depth c =
     let j = c.args.self.now in
-    record {
-      room = sym (ap (λ n. ltb n 8) (marks_length j) ∙ lt-ltb _ _ c.if-depth-ge8.false);
-      saves = open_marks j (record { at = j.len; held = c.args.held }) c.if-depth-ge8.false ∙ ap (λ n. record { at = n; held = c.args.held } ∷ marks j) (sym (trail_length j));
-      records = refl;
-    }
+    let m : Mark = record { at = j.len; held = c.args.held } in
+    let d = marks_length j in
+    let n : c.depth-2.result ≡ length (m ∷ marks j) = c.depth-2.ensures ∙ ap length (open_marks j m c.if-self-ge8.false) in
+    grind (arith, nat_tests)
+
+pub returns-clause-saves : goal.returns-clause-saves
+returns-clause-saves c =
+    let j = c.args.self.now in
+    open_marks j (record { at = j.len; held = c.args.held }) c.if-self-ge8.false ∙ ap (λ k. record { at = k; held = c.args.held } ∷ marks j) (sym (trail_length j))

@@ -1,28 +1,30 @@
-use Rattle.std.proofs.Common.{◌<◌, ◌≤◌, length, sym, refl, ◌∙◌, arith}
+use Rattle.std.proofs.Common.{sym, ◌∙◌, arith}
 use Rattle.edits.specs.Commands.{edit_of}
 use Rattle.session.specs.Meaning.{trail, marks}
-use Rattle.session.proofs.Rows.{trail_length, marks_length, no_mark, push_fields, push_trail, room_free, room_full, room_left}
+use Rattle.session.proofs.Rows.{trail_length, marks_length, no_mark, room_left, push_fields, push_trail}
+use Rattle.session.proofs.Grants.{noted_free, noted_some}
 use Rattle.session.proofs.journal.Journal.push.Goals as goal
 
-pub returns-then-self-eq0 : goal.returns-then-self-eq0
-returns-then-self-eq0 c =
+pub returns-then-self-eq0-clause-records : goal.returns-then-self-eq0-clause-records
+returns-then-self-eq0-clause-records c =
     let j = c.args.self.now in
-    let r = room_free (marks j) (edit_of c.args.back) (trail j) (no_mark j c.if-self-eq0.true) in
-    record { room = r.0; records = r.1; saves = refl }
+    noted_free (edit_of c.args.back) (trail j) (marks j) (no_mark j c.if-self-eq0.true)
 
-pub returns-then-at-ge512 : goal.returns-then-at-ge512
-returns-then-at-ge512 c =
+pub bounds-self-self : goal.bounds-self-self
+bounds-self-self c = room_left c.args.self.now c.in_ok-check_room.field-0 c.if-self-eq0.false c.in_ok-check_room.ensures
+
+pub listed : goal.listed
+listed c =
     let j = c.args.self.now in
-    let full : 512 ≤ length (trail j) = let l = trail_length j in omega (arith, c.if-at-ge512.true) in
-    let r = room_full (marks j) (edit_of c.args.back) (trail j) (λ z. c.if-self-eq0.false (sym (marks_length j) ∙ z)) full in
-    record { room = r.0; records = r.1; saves = refl }
+    let h = room_left j c.in_ok-check_room.field-0 c.if-self-eq0.false c.in_ok-check_room.ensures in
+    omega arith
 
 pub invariant_of-self : goal.invariant_of-self
-invariant_of-self c = push_fields c.args.self.now c.args.back c.if-self-eq0.false c.if-at-ge512.false
+invariant_of-self c = let j = c.args.self.now in push_fields j c.args.back c.if-self-eq0.false (room_left j c.in_ok-check_room.field-0 c.if-self-eq0.false c.in_ok-check_room.ensures)
 
-pub returns : goal.returns
-returns c =
+pub returns-clause-records : goal.returns-clause-records
+returns-clause-records c =
     let j = c.args.self.now in
-    let left : length (trail j) < 512 = let l = trail_length j in omega (arith, c.if-at-ge512.false) in
-    let r = room_left (marks j) (edit_of c.args.back) (trail j) (λ z. c.if-self-eq0.false (sym (marks_length j) ∙ z)) left in
-    record { room = r.0; records = push_trail j c.args.back c.if-at-ge512.false ∙ r.1; saves = refl }
+    let l = trail_length j in
+    let left = room_left j c.in_ok-check_room.field-0 c.if-self-eq0.false c.in_ok-check_room.ensures in
+    push_trail j c.args.back left ∙ noted_some (edit_of c.args.back) (trail j) (marks j) (λ z. c.if-self-eq0.false (sym (marks_length j) ∙ z)) (omega arith)

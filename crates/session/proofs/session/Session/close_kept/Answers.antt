@@ -1,35 +1,25 @@
-use Rattle.std.proofs.Common.{Ok, Err, sym, refl, ap, ◌∙◌}
-use mathlib.Core.Bool.{false≢true}
+use Rattle.std.proofs.Common.{Err, refl, ap, ◌∙◌}
 use Rattle.std.proofs.lemmas.Result.{err_from_is_err_and}
-use Rattle.session.specs.Copying.{accept_step, accepted, to}
+use Rattle.session.specs.Copying.{accepted}
 use Rattle.session.specs.Stack.{rest}
-use Rattle.session.specs.Trail.{copies, copying, kept, marked?}
+use Rattle.session.specs.Trail.{kept}
 use Rattle.session.specs.Meaning.{trail, marks}
-use Rattle.session.proofs.Rows.{trail_length}
-use Rattle.session.proofs.Steps.{stepped, closable_some, step_unclosed, step_accept}
+use Rattle.session.proofs.Rows.{marks_fit}
+use Rattle.session.proofs.Steps.{unclosed, closed_to, after_accept}
 use Rattle.session.proofs.session.Session.close_kept.Goals as goal
 
-pub returns-in_err-closing : goal.returns-in_err-closing
-returns-in_err-closing g c =
-    let a = c.args.self.now in
-    let p = g.S.Store.program a.store in
-    let t = trail a.journal in
-    let ms = marks a.journal in
-    let f = c.in_err-closing.field-0.0 in
+pub returns-in_err-check_newest : goal.returns-in_err-check_newest
+returns-in_err-check_newest g c =
     let q = err_from_is_err_and c.from_residual.result c.from_residual.ensures.1 in
-    stepped g.S.Store.program (accept_step c.args.depth c.args.held) a _ c.from_residual.result p t ms refl refl refl
-    (step_unclosed p t ms c.args.depth c.args.held (accepted (copying p t ms) (copies p t ms)) f (sym c.in_err-closing.ensures) ∙ ap (to (copying p t ms)) (sym (q.1 ∙ ap Err q.2)))
-    (λ o. (refl, refl))
+    unclosed g.S.Store.program c.args.self.now c.args.depth c.args.held (λ s. accepted s s.saves) c.from_residual.result c.in_err-check_newest.field-0.0
+    (q.1 ∙ ap Err q.2) c.in_err-check_newest.ensures
 
 pub returns : goal.returns
 returns g c =
+    let program = g.S.Store.program in
     let a = c.args.self.now in
-    let p = g.S.Store.program a.store in
+    let p = program a.store in
     let t = trail a.journal in
     let ms = marks a.journal in
-    let ok = sym c.in_ok-closing.ensures in
-    let top = closable_some ms c.args.depth c.args.held ok in
-    let fit = ap (λ n. marked? n ms) (trail_length a.journal) ∙ a.journal.marked in
-    stepped g.S.Store.program (accept_step c.args.depth c.args.held) a _ (Ok tt) p (kept (rest ms) t) (rest ms) refl c.close.ensures.records c.close.ensures.saves
-    (step_accept p t ms c.args.depth c.args.held top.0 (rest ms) top.1 ok fit)
-    (λ o. absurd (false≢true (sym o)))
+    closed_to program a c.args.depth c.args.held (λ s. accepted s s.saves) _ c.in_ok-check_newest.field-0
+    p (kept (rest ms) t) (rest ms) refl c.close.ensures.records c.close.ensures.saves c.in_ok-check_newest.ensures (after_accept p t ms (marks_fit a.journal))

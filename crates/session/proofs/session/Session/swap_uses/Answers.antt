@@ -6,9 +6,8 @@ use Rattle.program.specs.Uses.{uses}
 use Rattle.edits.specs.Commands.{rewrite}
 use Rattle.edits.specs.Replace.{swap_at}
 use Rattle.session.specs.Copying.{Copying, edit_step}
-use Rattle.session.specs.Trail.{copying}
 use Rattle.session.specs.Sweeping.{Ready, swept}
-use Rattle.session.specs.Meaning.{trail, marks, meaning}
+use Rattle.session.specs.Meaning.{meaning}
 use Rattle.session.proofs.Sweeps.{head_use, no_use_left, use_position, one_edit, one_ready, one_swept, one_fewer, none_swept}
 use Rattle.session.proofs.session.Session.swap_uses.Given as given
 use Rattle.session.proofs.session.Session.swap_uses.Goals as goal
@@ -19,47 +18,36 @@ pub record Swapped (s b : Copying) (n m : ℕ) : Type 0 where
   pub same : swept n m b ≡ swept n m s
   pub fewer : length (uses b.program n) < length (uses s.program n)
 
-turn : (g : given.Over) (c : goal.After-edit g) → Swapped (meaning g.S.Store.program c.loop-found.self) (meaning g.S.Store.program c.edit.new.self) c.args.n c.args.m
+turn : (g : given.Over) (c : goal.After-edit g) → Swapped (meaning g.S.Store.program c.loop-user.self) (meaning g.S.Store.program c.edit.new.self) c.args.n c.args.m
 turn g c =
-    let program = g.S.Store.program in
-    let a = c.loop-found.self in
-    let p = program a.store in
+    let a = c.loop-user.self in
+    let p = g.S.Store.program a.store in
+    let t = g.met.S.Store.proper a.store in
     let n = c.args.n in
     let m = c.args.m in
-    let s = meaning program a in
-    let t = trail a.journal in
-    let ms = marks a.journal in
-    let y = c.in-Some.found in
-    let u = y.0 in
-    let r = c.loop-found.invariant.0 in
-    let h = head_use (uses p n) y (c.in-Some.ensures.answer r.can.busy_n) in
+    let s = meaning g.S.Store.program a in
+    let u = c.in-Some.user in
+    let y : ℕ × ℕ = (u, c.in-Some.position) in
+    let r = c.loop-user.invariant.0 in
+    let h = head_use (uses p n) y c.in-Some.ensures in
     let pos = use_position p n y h.0 h.1 in
     let what = plain c.swapped-what.result in
-    let at_is = c.record_at.ensures.answer ∙ ap (λ q. at q u) c.first_use.ensures.after in
-    let room : y.1 ≤ arity c.record_at.result.op = subst (λ i. y.1 ≤ arity i.op) (sym at_is) pos.1 in
-    let what_is : what ≡ swap_at y.1 m (at p u) = c.swapped-what.ensures pos.0 room ∙ ap (swap_at y.1 m) at_is in
-    let moved =
-    c.edit.ensures.after
-    ∙ ap (λ q. (edit_step (rewrite u what) (copying q t ms)).after) (c.record_at.ensures.after ∙ c.first_use.ensures.after)
-    ∙ ap (λ i. (edit_step (rewrite u i) s).after) what_is
-    ∙ one_edit s n m y h.0 (g.S.Store.proper a.store) r h.1 in
+    let room : y.1 ≤ arity c.record_at.result.op = subst (λ i. y.1 ≤ arity i.op) (sym c.record_at.ensures) pos.1 in
+    let what_is : what ≡ swap_at y.1 m (at p u) = c.swapped-what.ensures pos.0 room ∙ ap (swap_at y.1 m) c.record_at.ensures in
+    let moved = c.edit.ensures.after ∙ ap (λ i. (edit_step (rewrite u i) s).after) what_is ∙ one_edit s n m y h.0 t r h.1 in
     record {
-      ready = subst (Ready n m) (sym moved) (one_ready s n m y h.0 (g.S.Store.proper a.store) r h.1);
-      same = ap (swept n m) moved ∙ one_swept s n m y h.0 (g.S.Store.proper a.store) r h.1;
-      fewer = subst (λ x. length (uses x.program n) < length (uses p n)) (sym moved) (one_fewer s n m y h.0 (g.S.Store.proper a.store) r h.1);
+      ready = subst (Ready n m) (sym moved) (one_ready s n m y h.0 t r h.1);
+      same = ap (swept n m) moved ∙ one_swept s n m y h.0 t r h.1;
+      fewer = subst (λ x. length (uses x.program n) < length (uses p n)) (sym moved) (one_fewer s n m y h.0 t r h.1);
     }
 
-pub loop-found-preserved : goal.loop-found-preserved
-loop-found-preserved g c = ((turn g c).ready, (turn g c).same ∙ c.loop-found.invariant.1)
+pub loop-user-preserved : goal.loop-user-preserved
+loop-user-preserved g c = ((turn g c).ready, (turn g c).same ∙ c.loop-user.invariant.1)
 
-pub loop-found-smaller : goal.loop-found-smaller
-loop-found-smaller g c = (turn g c).fewer
+pub loop-user-smaller : goal.loop-user-smaller
+loop-user-smaller g c = (turn g c).fewer
 
 pub returns : goal.returns
 returns g c =
-    let program = g.S.Store.program in
-    let a = c.loop-found.self in
-    let none = no_use_left (uses (program a.store) c.args.n) (c.in_default.ensures.answer c.loop-found.invariant.0.can.busy_n) in
-    ap (λ q. copying q (trail a.journal) (marks a.journal)) c.first_use.ensures.after
-    ∙ none_swept (meaning program a) c.args.n c.args.m none
-    ∙ c.loop-found.invariant.1
+    let s = meaning g.S.Store.program c.loop-user.self in
+    none_swept s c.args.n c.args.m (no_use_left (uses s.program c.args.n) c.in_default.ensures) ∙ c.loop-user.invariant.1
