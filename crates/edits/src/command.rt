@@ -8,7 +8,8 @@ use program::fault::StoreFault;
 use program::reading::{next_of, record_at};
 use program::store::Store;
 
-#[derive(Clone, Copy)]
+// A command with its numbers and, where it has one, its record.
+#[derive(Clone, Copy, PartialEq, Eq)]
 pub enum Command {
     Make(u32, Record),
     Link(u32, Option<u32>),

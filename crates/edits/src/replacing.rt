@@ -31,7 +31,8 @@ pub fn check_replace<S: Store>(store: &S, n: u32, m: u32) -> Result<(), StoreFau
     ensure(m != n && !reads_n, StoreFault::BadOperand(m))
 }
 
-// The record with m as the operand at a position that it has.
+// The record with m as the operand at a position that it has. The position comes as a number: by the project's rule a use is
+// a pair of numbers.
 pub fn swapped(mut what: Record, position: u8, m: u32) -> Record
     ensures { 1 ≤ position → position ≤ arity what.op → plain result ≡ swap_at position m (plain what) }
 {

@@ -1,18 +1,17 @@
 -- What an accepted command or reading says of its number's cell, and of the program after it.
-use Rattle.std.proofs.Common.{◌≡◌, ℕ, ◌<◌, true, false, not, List, length, get_or, Some, None, Ok, Option, Result, sym, refl, ap, ◌∙◌, arith}
+use Rattle.std.proofs.Common.{◌≡◌, ℕ, ◌<◌, true, false, not, List, length, get_or, Some, None, Option, Result, sym, refl, ap, ◌∙◌, arith}
 use Rattle.std.proofs.lemmas.List.{length-map}
-use Rattle.std.specs.Option.{option_map, ok_or}
+use Rattle.std.specs.Option.{option_map, option_or, ok_or}
 use Rattle.std.specs.Result.{result_map_both}
 use Rattle.ir.specs.declared.instruction.Record.{Record}
 use Rattle.ir.specs.Instructions.{Instr, plain}
 use Rattle.program.specs.declared.fault.StoreFault.{StoreFault}
 use Rattle.program.specs.declared.fault.StoreFault.TheVariants.{WrongState}
 use Rattle.program.specs.Programs.{Program, size, cell, busy, Busy, held, at, In, index_of, has, is_free, state_of}
-use Rattle.program.specs.Faults.{unless, range_fault, make_fault, rewrite_fault, link_fault, placed_fault, unmake_fault, busy_fault}
+use Rattle.program.specs.Faults.{unless, range_fault, make_fault, rewrite_fault, placed_fault, unmake_fault}
 use Rattle.program.specs.Commands.{settled}
 use Rattle.program.specs.Readings.{answered, read_answer}
 use Rattle.program.proofs.Accepting.{commands_accepted, busy_state, busy_inside}
-use Rattle.program.proofs.Faults.{or_right_none, unless_none}
 use Rattle.program.proofs.Places.{has_in, in_index}
 use Rattle.flat.specs.declared.cells.FlatCell.{FlatCell}
 use Rattle.flat.specs.declared.cells.FlatCell.TheVariants.{Vacant, Idle, Ranked}
@@ -29,11 +28,6 @@ After ys p = record { after : flat_program ys ≡ p; sound : Sound ys }
 pub accepted : (f : Option StoreFault) (ys : List FlatCell) (new old : Program) → f ≡ None → flat_program ys ≡ new → Sound ys → After ys (settled f new old)
 accepted f ys new old e q s = record { after = q ∙ sym (ap (λ g. settled g new old) e); sound = s }
 
-busy_none : (p : Program) (n : ℕ) → busy_fault p n ≡ None → Busy p n
-busy_none p n e =
-    sym (busy_state (cell p n) (has n p.order))
-    ∙ unless_none (not (is_free (state_of p n))) (WrongState n) (or_right_none (range_fault p n) (unless (not (is_free (state_of p n))) (WrongState n)) e)
-
 module _ (xs : List FlatCell) (n : ℕ) where
   abbrev p : Program
   p = flat_program xs
@@ -44,25 +38,25 @@ module _ (xs : List FlatCell) (n : ℕ) where
   size_within : n < size p → n < length xs
   size_within h = let l = length-map xs content in omega arith
 
-  busy_within : Busy p n → n < length xs
+  pub busy_within : Busy p n → n < length xs
   busy_within b = size_within (busy_inside p n b)
 
-  busy_here : Busy p n → busy (content here) ≡ true
+  pub busy_here : Busy p n → busy (content here) ≡ true
   busy_here b = sym (ap busy (cell_flat xs n)) ∙ b
 
-  -- ---- read: not free, so the cell has a record
+  -- ---- read: in range, and free exactly if the cell has no record
 
   pub read_held :
-      busy_fault p n ≡ None → (o : Option Record) → option_map plain o ≡ content here → (r : Result Record StoreFault) → r ≡ ok_or o (WrongState n)
+      range_fault p n ≡ None → (o : Option Record) → option_map plain o ≡ content here → (r : Result Record StoreFault) → r ≡ ok_or o (WrongState n)
       → result_map_both plain (λ f. f) r ≡ read_answer p n
   read_held none o is r e =
-      let here : option_map plain o ≡ cell p n = is ∙ sym (cell_flat xs n) in
-      let by_record : (q : Option Record) → option_map plain q ≡ cell p n → result_map_both plain (λ f. f) (ok_or q (WrongState n)) ≡ Ok (at p n)
-      = elim [
-        | None ↦ (λ h. let b : busy None ≡ true = ap busy h ∙ busy_none p n none in let z : ◌≡◌ {A = ℕ} 0 1 = cc in absurd (omega arith))
-        | Some s ↦ (λ h. ap (λ c. Ok (held c)) h)
-      ]
-      in ap (result_map_both plain (λ f. f)) e ∙ by_record o here ∙ ap (λ f. answered f (at p n)) (sym none)
+      let by_record : (q : Option Record) → result_map_both plain (λ f. f) (ok_or q (WrongState n)) ≡ answered (unless (busy (option_map plain q)) (WrongState n)) (held (option_map plain q))
+      = elim [ None ↦ refl | Some s ↦ refl ]
+      in ap (result_map_both plain (λ f. f)) e
+      ∙ by_record o
+      ∙ ap (λ c. answered (unless (busy c) (WrongState n)) (held c)) (is ∙ sym (cell_flat xs n))
+      ∙ ap (λ b. answered (unless b (WrongState n)) (at p n)) (sym (busy_state (cell p n) (has n p.order)))
+      ∙ ap (λ f. answered (option_or f (unless (not (is_free (state_of p n))) (WrongState n))) (at p n)) (sym none)
 
   free_rank : (c : FlatCell) → busy (content c) ≡ false → rank_of c ≡ None
   free_rank Vacant e = refl
@@ -82,22 +76,13 @@ module _ (xs : List FlatCell) (n : ℕ) where
   pub rewrite_within : (i : Instr) → rewrite_fault p n i ≡ None → n < length xs
   rewrite_within i e = busy_within (((commands_accepted p).rewrite n i).0 e).was_busy
 
-  -- ---- link and unmake: loose
+  -- ---- unmake: loose, and then there is no rank
 
-  out_rank : Sound xs → (In n (order_of xs) → ⊥) → rank_at xs n ≡ None
+  pub out_rank : Sound xs → (In n (order_of xs) → ⊥) → rank_at xs n ≡ None
   out_rank s out =
       let by_rank : (o : Option ℕ) → rank_at xs n ≡ o → o ≡ None
       = elim [ None ↦ (λ e. refl) | Some r ↦ (λ e. absurd (out (has_in n (order_of xs) (has_ranked xs s n r e)))) ]
       in by_rank (rank_at xs n) refl
-
-  pub link_within : (a : Option ℕ) → link_fault p n a ≡ None → n < length xs
-  link_within a e = busy_within (((commands_accepted p).link n a).0 e).was_busy
-
-  pub link_busy : (a : Option ℕ) → link_fault p n a ≡ None → busy (content here) ≡ true
-  link_busy a e = busy_here (((commands_accepted p).link n a).0 e).was_busy
-
-  pub link_rank : Sound xs → (a : Option ℕ) → link_fault p n a ≡ None → rank_at xs n ≡ None
-  link_rank s a e = out_rank s (((commands_accepted p).link n a).0 e).loose
 
   pub unmake_within : unmake_fault p n ≡ None → n < length xs
   unmake_within e = busy_within (((commands_accepted p).unmake n).0 e).was_busy

@@ -4,13 +4,14 @@ use Rattle.std.specs.Option.{option_map}
 use Rattle.std.specs.List.{insert}
 use Rattle.std.proofs.lemmas.List.Edits.{length-insert, get_or-insert_below, get_or-insert_at, get_or-insert_above}
 use Rattle.std.proofs.lemmas.Bool.{cases_eq, cases_lt, le-leb, lt-leb, cond-true, cond-false}
-use Rattle.program.specs.Programs.{Program, busy}
+use Rattle.program.specs.Programs.{Program, busy, Busy, In}
 use Rattle.program.specs.Faults.{link_fault}
 use Rattle.program.specs.Commands.{reorder, anchor_place, after_link}
+use Rattle.program.proofs.Faults.{settles}
 use Rattle.flat.specs.declared.cells.FlatCell.{FlatCell}
 use Rattle.flat.specs.declared.cells.FlatCell.TheVariants.{Vacant}
 use Rattle.flat.specs.FlatModel.{content, rank_of, weight, rank_at, placed_count, order_of, flat_program, rerank, up, Sound}
-use Rattle.flat.proofs.Accepted.{After, accepted, link_within, link_busy, link_rank}
+use Rattle.flat.proofs.Accepted.{After, busy_within, busy_here, out_rank}
 use Rattle.flat.proofs.Orders.{Ordered, ordered_from_sound, index_bound}
 use Rattle.flat.proofs.Moving.{moved, unmapped, rank_here, rank_else, count_moved, sound_moved, program_moved}
 
@@ -106,30 +107,33 @@ module _ (xs : List FlatCell) (n at : ℕ) (x : FlatCell) (within : n < length x
     ordered_linked : Ordered linked (insert o at n)
     ordered_linked = record { count = count_linked; low = low_linked; ranked = ranked_linked; placed = placed_linked }
 
--- the cells after an accepted link
-module _ (xs : List FlatCell) (s : Sound xs) (n : ℕ) (anchor : Option ℕ) (none : link_fault (flat_program xs) n anchor ≡ None) where
-  abbrev p : Program
-  p = flat_program xs
+-- the cells after a loose number was put at a place
+module _ (xs : List FlatCell) (s : Sound xs) (n : ℕ) (busy_n : Busy (flat_program xs) n) (loose : In n (order_of xs) → ⊥) (at : ℕ) (fits : at ≤ length (order_of xs))
+    (ys : List FlatCell) (opened : ys ≡ map (rerank (up at)) xs) (old x : FlatCell) (is : old ≡ get_or xs n Vacant) (same : content x ≡ content old)
+    (rank : busy (content old) ≡ true → rank_of x ≡ Some at) where
+  within : n < length xs
+  within = busy_within xs n busy_n
 
-  anchor_bound : (a : Option ℕ) → anchor_place p a ≤ length (order_of xs)
-  anchor_bound None = omega arith
-  anchor_bound (Some a) = index_bound a (order_of xs)
+  ordered : Ordered (set (map (rerank (up at)) xs) n x) (insert (order_of xs) at n)
+  ordered =
+      ordered_linked xs n at x within (out_rank xs n s loose) (rank (ap (λ c. busy (content c)) is ∙ busy_here xs n busy_n)) (order_of xs)
+      (ordered_from_sound xs s) fits
 
-  module _ (at : ℕ) (place : at ≡ anchor_place p anchor) (ys : List FlatCell) (opened : ys ≡ map (rerank (up at)) xs) (old x : FlatCell) (is : old ≡ get_or xs n Vacant)
-      (same : content x ≡ content old) (rank : busy (content old) ≡ true → rank_of x ≡ Some at) where
-    within : n < length xs
-    within = link_within xs n anchor none
+  pub linked_cells : After (set ys n x) (reorder (flat_program xs) (insert (order_of xs) at n))
+  linked_cells =
+      subst (λ l. After (set l n x) (reorder (flat_program xs) (insert (order_of xs) at n))) (sym opened)
+      (record {
+        after = program_moved (up at) xs n x within (insert (order_of xs) at n) ordered (same ∙ ap content is);
+        sound = sound_moved (up at) xs n x within (insert (order_of xs) at n) ordered s.few;
+      })
 
-    ordered : Ordered (set (map (rerank (up at)) xs) n x) (insert (order_of xs) at n)
-    ordered =
-        let b = anchor_bound anchor in
-        ordered_linked xs n at x within (link_rank xs n s anchor none) (rank (ap (λ c. busy (content c)) is ∙ link_busy xs n anchor none)) (order_of xs)
-        (ordered_from_sound xs s) (omega arith)
+-- the place of an anchor is in the order, or its end
+pub anchor_bound : (p : Program) (a : Option ℕ) → anchor_place p a ≤ length p.order
+anchor_bound p None = omega arith
+anchor_bound p (Some a) = index_bound a p.order
 
-    pub linked_cells : After (set ys n x) (after_link p n anchor)
-    linked_cells =
-        let new : Program = reorder p (insert (order_of xs) (anchor_place p anchor) n) in
-        subst (λ l. After (set l n x) (after_link p n anchor)) (sym opened)
-        (accepted (link_fault p n anchor) (set (map (rerank (up at)) xs) n x) new p none
-        (program_moved (up at) xs n x within (insert (order_of xs) at n) ordered (same ∙ ap content is) ∙ ap (λ k. reorder p (insert (order_of xs) k n)) place)
-        (sound_moved (up at) xs n x within (insert (order_of xs) at n) ordered s.few))
+-- that place is where an accepted link puts a number
+pub linked_after :
+    (p : Program) (n at : ℕ) (a : Option ℕ) (q : Program) → link_fault p n a ≡ None → at ≡ anchor_place p a → q ≡ reorder p (insert p.order at n) → q ≡ after_link p n a
+linked_after p n at a q none place e =
+    e ∙ ap (λ k. reorder p (insert p.order k n)) place ∙ sym (settles (link_fault p n a) (reorder p (insert p.order (anchor_place p a) n)) p none)

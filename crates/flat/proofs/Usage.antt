@@ -2,7 +2,7 @@
 use Rattle.std.proofs.Common.{◌≡◌, ℕ, zero, suc, ◌+◌, ◌<◌, ◌≤◌, true, false, cond, eqb, ltb, List, [], ◌∷◌, ◌++◌, map, length, get_or, take, drop, Some, None, Option, sym, refl, ap, ◌∙◌, arith}
 use Rattle.std.specs.Option.{option_or}
 use Rattle.std.specs.List.{sum_by}
-use Rattle.std.proofs.lemmas.List.{append-nil, length-append, length-map, at_drop_more, get_or_read}
+use Rattle.std.proofs.lemmas.List.{append-nil, length-append, length-map, at_drop_more, at_drop_all}
 use Rattle.std.proofs.lemmas.List.Sums.{sum_by-cons}
 use Rattle.ir.specs.Operations.{arity}
 use Rattle.ir.specs.declared.operation.Op.{Op}
@@ -82,24 +82,43 @@ module _ (after : Option (ℕ × ℕ)) where
       ∙ least_append a (b ++ c)
       ∙ ap (option_or (least_beyond after a)) (least_append b c)
 
--- ---- one cell of a scan
+-- ---- the scan of the cells
 
-module _ (v : ℕ) (xs : List FlatCell) where
+module _ (v : ℕ) (xs : List FlatCell) (after : Option (ℕ × ℕ)) where
   -- the uses by the cells from a number on
-  abbrev pub rest : ℕ → List (ℕ × ℕ)
+  abbrev rest : ℕ → List (ℕ × ℕ)
   rest i = uses_from v i (drop i (map content xs))
 
-  module _ (i : ℕ) (x : FlatCell) (h : i < length xs) (e : x ≡ get_or xs i x) where
-    uses_step : rest i ≡ uses_by v i (content x) ++ rest (i + 1)
-    uses_step =
-        let cs : List Cell = map content xs in
-        let l = length-map xs content in
-        let k : i < length cs = omega arith in
-        let at : get_or cs i None ≡ content x = get_or_map_at content xs i Vacant ∙ ap content (sym (get_or_read xs i x h e Vacant)) in
-        at_drop_more (uses_from v i) cs i None k ∙ ap (λ c. uses_by v i c ++ rest (i + 1)) at
+  -- the least use by one cell
+  abbrev here : ℕ → Option (ℕ × ℕ)
+  here i = least_beyond after (uses_by v i (content (get_or xs i Vacant)))
 
-    pub least_step :
-        (after o : Option (ℕ × ℕ)) → o ≡ least_beyond after (uses_by v i (content x)) → option_or o (least_beyond after (rest (i + 1))) ≡ least_beyond after (rest i)
-    least_step after o q =
-        ap (λ l. option_or l (least_beyond after (rest (i + 1)))) q
-        ∙ sym (ap (least_beyond after) uses_step ∙ least_append after (uses_by v i (content x)) (rest (i + 1)))
+  step_rest : (i : ℕ) → i < length xs → least_beyond after (rest i) ≡ option_or (here i) (least_beyond after (rest (i + 1)))
+  step_rest i h =
+      let l = length-map xs content in
+      let cs : List Cell = map content xs in
+      at_drop_more (λ l. least_beyond after (uses_from v i l)) cs i None (omega arith)
+      ∙ least_append after (uses_by v i (get_or cs i None)) (rest (i + 1))
+      ∙ ap (λ c. option_or (least_beyond after (uses_by v i c)) (least_beyond after (rest (i + 1)))) (get_or_map_at content xs i Vacant)
+
+  -- a step to the next cell, by what the cell has
+  found_step : (i : ℕ) → i < length xs → (o : Option (ℕ × ℕ)) → o ≡ here i → least_beyond after (rest i) ≡ option_or o (least_beyond after (rest (i + 1)))
+  found_step i h o e = step_rest i h ∙ ap (λ p. option_or p (least_beyond after (rest (i + 1)))) (sym e)
+
+  skipped : (m : ℕ) → m ≤ length xs → ((k : ℕ) → k < m → None ≡ here k) → least_beyond after (rest 0) ≡ least_beyond after (rest m)
+  skipped zero h f = refl
+  skipped (suc m) h f =
+      let e : m + 1 ≡ suc m = omega arith in
+      skipped m (omega arith) (λ k l. f k (omega arith)) ∙ found_step m (omega arith) None (f m (omega arith)) ∙ ap (λ i. least_beyond after (rest i)) e
+
+  -- the first cell that has one has the least of all
+  pub least_first :
+      (r : Option (ℕ × ℕ)) → (r ≡ None → (k : ℕ) → k < length xs → None ≡ here k)
+      → ((y : ℕ × ℕ) → r ≡ Some y → (i : ℕ) × (i < length xs) × (Some y ≡ here i) × ((k : ℕ) → k < i → None ≡ here k)) → r ≡ least_beyond after (uses_from v 0 (map content xs))
+  least_first None none some =
+      let l = length-map xs content in
+      sym (skipped (length xs) (omega arith) (none refl) ∙ at_drop_all (λ l. least_beyond after (uses_from v (length xs) l)) (map content xs) (length xs) (omega arith))
+  least_first (Some y) none some =
+      let s = some y refl in
+      let h = s.1 in
+      sym (skipped s.0 (omega arith) s.3 ∙ found_step s.0 s.1 (Some y) s.2)

@@ -10,7 +10,7 @@ use ir::instruction::Record;
 use program::state::State;
 
 // A free number is Vacant, a loose one Idle, and a placed one Ranked by its place in the order, from 0.
-#[derive(Clone, Copy)]
+#[derive(Clone, Copy, PartialEq, Eq)]
 pub enum FlatCell {
     Vacant,
     Idle(Record),
@@ -72,10 +72,8 @@ impl FlatCell {
         ensures content { content result ≡ content self }
         ensures rank { busy (content self) ≡ true → rank_of result ≡ Some at }
     {
-        match self {
-            FlatCell::Vacant => FlatCell::Vacant,
-            FlatCell::Idle(what) | FlatCell::Ranked(what, _) => FlatCell::Ranked(what, at),
-        }
+        self.record()
+            .map_or(FlatCell::Vacant, |what| FlatCell::Ranked(what, at))
     }
 
     // The cell with its record, if it has one, at no rank.
@@ -83,10 +81,7 @@ impl FlatCell {
         ensures content { content result ≡ content self }
         ensures rank { rank_of result ≡ None }
     {
-        match self {
-            FlatCell::Ranked(what, _) => FlatCell::Idle(what),
-            cell => cell,
-        }
+        self.record().map_or(FlatCell::Vacant, FlatCell::Idle)
     }
 
     // The cell with another record, at the rank that it has.
@@ -108,7 +103,7 @@ pub(crate) fn cell_at(cells: &[FlatCell], n: u32) -> FlatCell
     cells.get(n as usize).copied().unwrap_or(FlatCell::Vacant)
 }
 
-// Changes the rank of each placed number.
+// Changes the rank of each placed number. A function over the lent slice, as all that writes cells, so it asks what they keep.
 pub(crate) fn rerank<F: Fn(u32) -> u32>(cells: &mut [FlatCell], change: F)
     requires sound { Sound cells.old }
     requires callable { (k : ℕ) → k < 1024 → F.pre change k }

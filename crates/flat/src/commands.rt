@@ -1,16 +1,18 @@
 // What the five commands do to the cells, once the checks allow it, and the clearing of cells.
-ghost use Rattle.std.specs.Prelude.{◌≡◌, length, replicate, None};
+// A store's cells are written by functions over the lent slice alone, so what these need of the cells stands in their contracts.
+ghost use Rattle.std.specs.Prelude.{◌≡◌, ◌≤◌, length, replicate, None};
+ghost use Rattle.std.specs.List.{insert};
 ghost use Rattle.ir.specs.Instructions.{plain};
-ghost use Rattle.program.specs.Faults.{make_fault, link_fault, placed_fault, unmake_fault, rewrite_fault};
-ghost use Rattle.program.specs.Commands.{after_make, after_link, after_unlink, after_unmake, after_rewrite};
+ghost use Rattle.program.specs.Programs.{Busy, In, index_of};
+ghost use Rattle.program.specs.Faults.{make_fault, placed_fault, unmake_fault, rewrite_fault};
+ghost use Rattle.program.specs.Commands.{reorder, after_make, after_unlink, after_unmake, after_rewrite};
 ghost use Rattle.flat.specs.declared.cells.FlatCell.TheVariants.{Vacant};
-ghost use Rattle.flat.specs.FlatModel.{Sound, flat_program};
+ghost use Rattle.flat.specs.FlatModel.{Sound, flat_program, order_of};
 
 use crate::cells::{FlatCell, cell_at, rerank};
-use crate::places::{place_for, place_of};
 use ir::instruction::Record;
 
-// Makes every number free.
+// Makes every number free, as the model says it: the library's `fill` with a name for what it fills in.
 pub(crate) fn clear(cells: &mut [FlatCell])
     ensures { cells.new ≡ replicate (length cells.old) Vacant }
 {
@@ -27,27 +29,28 @@ pub(crate) fn make(cells: &mut [FlatCell], n: u32, what: Record)
     cells[n as usize] = FlatCell::Idle(what);
 }
 
-// Puts a loose number before a placed anchor, or at the end.
-pub(crate) fn link(cells: &mut [FlatCell], n: u32, anchor: Option<u32>)
+// Puts a loose number at a place of the order, or at its end.
+pub(crate) fn link(cells: &mut [FlatCell], n: u32, at: u32)
     requires sound { Sound cells.old }
-    requires allowed { link_fault (flat_program cells.old) n anchor ≡ None }
-    ensures after { flat_program cells.new ≡ after_link (flat_program cells.old) n anchor }
+    requires busy { Busy (flat_program cells.old) n }
+    requires loose { In n (order_of cells.old) → ⊥ }
+    requires place { at ≤ length (order_of cells.old) }
+    ensures after { flat_program cells.new ≡ reorder (flat_program cells.old) (insert (order_of cells.old) at n) }
     ensures sound { Sound cells.new }
 {
-    let at = place_for(cells, anchor);
     let cell = cell_at(cells, n);
     rerank(cells, |k| if at <= k { k + 1 } else { k });
     cells[n as usize] = cell.ranked(at);
 }
 
 // Makes a placed number loose.
-pub(crate) fn unlink(cells: &mut [FlatCell], n: u32)
+pub(crate) fn unlink(cells: &mut [FlatCell], n: u32, at: u32)
     requires sound { Sound cells.old }
     requires allowed { placed_fault (flat_program cells.old) n ≡ None }
+    requires place { at ≡ index_of n (order_of cells.old) }
     ensures after { flat_program cells.new ≡ after_unlink (flat_program cells.old) n }
     ensures sound { Sound cells.new }
 {
-    let at = place_of(cells, n);
     let cell = cell_at(cells, n);
     rerank(cells, |k| if at < k { k - 1 } else { k });
     cells[n as usize] = cell.unranked();

@@ -1,4 +1,5 @@
 // The flat store: each placed number has its rank, and uses are found by a scan.
+// The store uses no heap: the caller lends the cells as a slice, and a number is an index into it.
 ghost use Rattle.std.specs.Prelude.{◌≡◌, ◌≤◌, min, length};
 ghost use Rattle.program.specs.Programs.{new_program};
 ghost use Rattle.program.specs.Proper.{Tied};
@@ -7,8 +8,6 @@ ghost use Rattle.flat.specs.Keeping.{proper_flat};
 
 use crate::cells::{FlatCell, cell_at};
 use crate::commands;
-use crate::places::{count_placed, number_at, number_before, place_of};
-use crate::uses::{count_all, least_use};
 use ir::instruction::Record;
 use program::checks;
 use program::fault::StoreFault;
@@ -20,7 +19,7 @@ use program::store::Store;
 // its ranks are 0 to one below the count of placed numbers, each once, and no operand is free or the instruction itself.
 #[derive(Drop)]
 pub struct Flat<'a> {
-    cells: &'a mut [FlatCell],
+    pub(crate) cells: &'a mut [FlatCell],
     ghost few: { length cells.now ≤ 1024 },
     ghost filled: { Filled cells.now },
     ghost low: { Low cells.now },
@@ -41,7 +40,7 @@ impl<'a> Flat<'a> {
 }
 
 // What the checks ask of the store.
-impl<'a> Look for Flat<'a> {
+impl Look for Flat<'_> {
     ghost program = { λ s. flat_program s.cells.now };
 
     fn find(&self, n: u32) -> Option<State> {
@@ -49,11 +48,11 @@ impl<'a> Look for Flat<'a> {
     }
 
     fn is_unused(&self, n: u32) -> bool {
-        least_use(self.cells, n, None).is_none()
+        self.least_use(n, None).is_none()
     }
 }
 
-impl<'a> Store for Flat<'a> {
+impl Store for Flat<'_> {
     ghost program = { λ s. flat_program s.cells.now };
 
     fn make(&mut self, n: u32, what: Record) -> Result<(), StoreFault> {
@@ -64,13 +63,15 @@ impl<'a> Store for Flat<'a> {
 
     fn link(&mut self, n: u32, anchor: Option<u32>) -> Result<(), StoreFault> {
         checks::link(self, n, anchor)?;
-        commands::link(self.cells, n, anchor);
+        let at = self.place_for(anchor);
+        commands::link(self.cells, n, at);
         Ok(())
     }
 
     fn unlink(&mut self, n: u32) -> Result<(), StoreFault> {
         checks::placed(self, n)?;
-        commands::unlink(self.cells, n);
+        let at = self.place_of(n);
+        commands::unlink(self.cells, n, at);
         Ok(())
     }
 
@@ -91,43 +92,42 @@ impl<'a> Store for Flat<'a> {
     }
 
     fn state(&self, n: u32) -> Result<State, StoreFault> {
-        checks::range(self, n)?;
-        Ok(cell_at(self.cells, n).state())
+        checks::state(self, n)
     }
 
     fn read(&self, n: u32) -> Result<Record, StoreFault> {
-        checks::busy(self, n)?;
+        checks::range(self, n)?;
         cell_at(self.cells, n)
             .record()
             .ok_or(StoreFault::WrongState(n))
     }
 
     fn first(&self) -> Option<u32> {
-        number_at(self.cells, 0)
+        self.number_at(0)
     }
 
     fn last(&self) -> Option<u32> {
-        number_before(self.cells, count_placed(self.cells))
+        self.number_before(self.count_placed())
     }
 
     fn next(&self, n: u32) -> Result<Option<u32>, StoreFault> {
         checks::placed(self, n)?;
-        Ok(number_at(self.cells, place_of(self.cells, n) + 1))
+        Ok(self.number_at(self.place_of(n) + 1))
     }
 
     fn previous(&self, n: u32) -> Result<Option<u32>, StoreFault> {
         checks::placed(self, n)?;
-        Ok(number_before(self.cells, place_of(self.cells, n)))
+        Ok(self.number_before(self.place_of(n)))
     }
 
     fn count_uses(&self, n: u32) -> Result<u32, StoreFault> {
         checks::busy(self, n)?;
-        Ok(count_all(self.cells, n))
+        Ok(self.count_all(n))
     }
 
     fn next_use(&self, n: u32, after: Option<(u32, u8)>) -> Result<Option<(u32, u8)>, StoreFault> {
         checks::busy(self, n)?;
-        Ok(least_use(self.cells, n, after))
+        Ok(self.least_use(n, after))
     }
 
     ghost proper = { λ s. proper_flat s.cells.now s.few s.filled s.tied };

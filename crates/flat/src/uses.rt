@@ -6,6 +6,7 @@ ghost use Rattle.program.specs.Uses.{uses, uses_at, uses_by, beyond, least_beyon
 ghost use Rattle.flat.specs.FlatModel.{content, flat_program, one_use};
 
 use crate::cells::FlatCell;
+use crate::flat::Flat;
 use ir::instruction::Record;
 
 // Whether a use, by its user and then its position, is greater than a pair, where there is one.
@@ -22,7 +23,7 @@ fn use_at(x: Option<u32>, n: u32, after: Option<(u32, u8)>, found: (u32, u8)) ->
     (x == Some(n) && is_beyond(after, found)).then_some(found)
 }
 
-// The least use by a record that is beyond the pair.
+// The least use by a record that is beyond the pair. Each operand has a position of its own.
 fn use_of(what: Record, n: u32, after: Option<(u32, u8)>, user: u32) -> Option<(u32, u8)>
     ensures { result ≡ least_beyond after (uses_at n user 1 (operands (plain what))) }
 {
@@ -40,20 +41,7 @@ fn use_by(cell: FlatCell, n: u32, after: Option<(u32, u8)>, user: u32) -> Option
     use_of(cell.record()?, n, after, user)
 }
 
-// The least use that is greater than a pair, where there is one.
-pub(crate) fn least_use(cells: &[FlatCell], n: u32, after: Option<(u32, u8)>) -> Option<(u32, u8)>
-    requires { length cells.now ≤ 1024 }
-    ensures { result ≡ least_beyond after (uses (flat_program cells.now) n) }
-{
-    for (i, cell) in cells.iter().enumerate() {
-        if let Some(found) = use_by(*cell, n, after, i as u32) {
-            return Some(found);
-        }
-    }
-    None
-}
-
-// How many of a record's operands are the number.
+// How many of a record's operands are the number. One after another: by `filter` and `count` the check found no proof.
 fn count_of(what: Record, n: u32) -> u32
     ensures few { result ≤ 3 }
     ensures count { (u : ℕ) → result ≡ length (uses_at n u 1 (operands (plain what))) }
@@ -70,10 +58,21 @@ fn count_by(cell: FlatCell, n: u32) -> u32
     cell.record().map_or(0, |what| count_of(what, n))
 }
 
-// How many uses a number has.
-pub(crate) fn count_all(cells: &[FlatCell], n: u32) -> u32
-    requires { length cells.now ≤ 1024 }
-    ensures { result ≡ length (uses (flat_program cells.now) n) }
-{
-    cells.iter().map(|cell| count_by(*cell, n)).sum()
+impl Flat<'_> {
+    // The least use that is greater than a pair, where there is one.
+    pub(crate) fn least_use(&self, n: u32, after: Option<(u32, u8)>) -> Option<(u32, u8)>
+        ensures { result ≡ least_beyond after (uses (flat_program self.now.cells.now) n) }
+    {
+        self.cells
+            .iter()
+            .enumerate()
+            .find_map(|(i, cell)| use_by(*cell, n, after, i as u32))
+    }
+
+    // How many uses a number has.
+    pub(crate) fn count_all(&self, n: u32) -> u32
+        ensures { result ≡ length (uses (flat_program self.now.cells.now) n) }
+    {
+        self.cells.iter().map(|cell| count_by(*cell, n)).sum()
+    }
 }

@@ -15,6 +15,7 @@ fn answer_all<S: Store, M>(session: &mut Session<S, M>, calls: &[Call], replies:
     requires { length calls.now ≤ length replies.old }
     ensures { Made S.program (length calls.now) calls.now session.old session.new replies.old replies.new }
 {
+    // A zip with iter_mut was tried, and its proof did not close: nothing is known of the slice's items after an adapter of iter_mut.
     for (i, call) in calls.iter().enumerate() {
         replies[i] = session.call(*call);
     }

@@ -13,6 +13,7 @@ pub enum HistoryFault {
 }
 
 // What an accepted call does to the pile.
+// It stays a type: these are the definition's four kinds, and the match in `follow` chooses among four; it is no step to hand in.
 #[derive(Clone, Copy, PartialEq, Eq)]
 enum Kind {
     Work,
@@ -30,6 +31,7 @@ struct Pile {
     len: usize,
 }
 
+// The kind of a call.
 fn kind_of(call: Call) -> Kind
     ensures { result ≡ kind_of (act_of call) }
 {
@@ -51,9 +53,9 @@ fn follow(pile: &mut Pile, kept: &mut [Call], call: Call, reply: Reply) -> Resul
     requires { (pile.old.depth ≤ 8) × (pile.old.len < length kept.old) }
     ensures { Followed call reply kept.old kept.new pile.old pile.new result }
 {
-    let Ok(_) = reply else {
+    if reply.is_err() {
         return Ok(());
-    };
+    }
     match kind_of(call) {
         Kind::Work => {
             kept[pile.len] = call;
@@ -67,9 +69,7 @@ fn follow(pile: &mut Pile, kept: &mut [Call], call: Call, reply: Reply) -> Resul
             pile.depth += 1;
         }
         Kind::Accept => {
-            if pile.depth > 0 {
-                pile.depth -= 1;
-            }
+            pile.depth = pile.depth.saturating_sub(1);
         }
         Kind::Revert => {
             if pile.depth > 0 {

@@ -15,7 +15,7 @@ pub enum Layer {
 }
 
 impl Layer {
-    // The letter by which a refusal names the layer.
+    // The letter by which a refusal names the layer. A method, since what it answers is promised; Display promises nothing.
     pub fn letter(self) -> char
         ensures { result ≡ letter_of_layer self }
     {
@@ -40,7 +40,7 @@ impl Layer {
     }
 }
 
-// A fault's number, who found it, and where.
+// A fault's number, who found it, and where. The numbers are the bench's: a refusal is written with them.
 #[derive(Clone, Copy, PartialEq, Eq)]
 pub struct Report {
     pub number: u32,

@@ -3,7 +3,8 @@ ghost use Rattle.ir.specs.Operations.{Shaped};
 
 use crate::operation::Op;
 
-// The literal lies in the operation's range, and an absent operand is 0: no record ever breaks this.
+// The literal lies in the operation's range, and an absent operand is 0: no record ever breaks this. A record is made from five
+// numbers, so an absent operand is a number too; `operands` gives it as none.
 #[derive(Clone, Copy, PartialEq, Eq)]
 pub struct Record {
     pub op: Op,

@@ -2,6 +2,7 @@
 ghost use Rattle.std.specs.Prelude.{◌≡◌, nat_lt};
 ghost use Rattle.ir.specs.Operations.{arity, limit, letter_of};
 ghost use Rattle.ir.specs.Instructions.{plain, constant_of, slots};
+ghost use Rattle.ir.specs.declared.maker.RecordFault.TheVariants.{Malformed};
 ghost use Rattle.ir.specs.Making.{Decodes, Made, record_report};
 
 use crate::fault::{Layer, Report};
@@ -12,7 +13,7 @@ use std::fmt;
 // Why five numbers are no record.
 #[derive(Clone, Copy, PartialEq, Eq)]
 pub enum RecordFault {
-    // the place: 0 for the code or the literal, else the position of the operand
+    // the place, as a report gives it: 0 for the code or the literal, else the position of the operand
     Malformed(u32),
 }
 
@@ -26,10 +27,18 @@ impl From<RecordFault> for Report {
     }
 }
 
-// No operation has this code.
+// No operation has this code. Errors of `TryFrom` say what was given; that of a rule's number is another crate's.
 #[derive(Clone, Copy, PartialEq, Eq)]
 pub struct UnknownCode {
     pub code: u32,
+}
+
+impl From<UnknownCode> for RecordFault {
+    ghost from_gives = { λ e r. r ≡ Malformed 0 };
+
+    fn from(_: UnknownCode) -> RecordFault {
+        RecordFault::Malformed(0)
+    }
 }
 
 // The operation of a code.
@@ -59,7 +68,7 @@ impl TryFrom<u32> for Op {
 }
 
 impl Op {
-    // The letter that stands for the operation in a line.
+    // The letter that stands for the operation in a line. A method, since what it answers is promised; Display promises nothing.
     pub fn letter(self) -> char
         ensures { result ≡ letter_of self }
     {
@@ -110,9 +119,7 @@ impl Record {
     pub fn new(code: u32, literal: u32, a: u32, b: u32, c: u32) -> Result<Record, RecordFault>
         ensures { Made code literal a b c result }
     {
-        let Ok(op) = Op::try_from(code) else {
-            return Err(RecordFault::Malformed(0));
-        };
+        let op = Op::try_from(code)?;
         if !op.allows(literal) {
             return Err(RecordFault::Malformed(0));
         }
@@ -135,7 +142,8 @@ impl Record {
         })
     }
 
-    // The operand at each position that the operation has; behind the last there is none.
+    // The operand at each position that the operation has; behind the last there is none. Callers take the three apart:
+    // what they do differs by position, and three lines are no longer than a loop.
     pub fn operands(self) -> [Option<u32>; 3]
         ensures { result ≡ slots (plain self) }
     {

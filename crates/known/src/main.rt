@@ -22,8 +22,8 @@ pub fn known_results()
     ensures { KnownResults }
 {}
 
-fn refusal<F: Into<Report>>(rt: &impl Print, fault: F) -> io::Result<()> {
-    let report: Report = fault.into();
+// A refusal on a line of its own. The walkthrough has the like: the two programs share no crate that prints.
+fn refusal(rt: &impl Print, report: Report) -> io::Result<()> {
     println!(rt; "refused: {report}")
 }
 
@@ -36,7 +36,7 @@ fn shows_shift(rt: &impl Print, by: u32) -> io::Result<()> {
     print!(rt; "record, shift by {by}: ")?;
     match shift(by) {
         Ok(_) => println!(rt; "made"),
-        Err(fault) => refusal(rt, fault),
+        Err(fault) => refusal(rt, fault.into()),
     }
 }
 
@@ -49,6 +49,7 @@ fn install<S: Store>(store: &mut S, third: Record) -> Result<(), RecordFault> {
         Record::new(12, 5, 3, 0, 0)?,
     ];
     for (n, what) in (1..5).zip(records) {
+        // Nothing is refused where the third record fits; where it does not, the price shows it.
         let _ = store.make(n, what);
         let _ = store.link(n, None);
     }
@@ -58,15 +59,17 @@ fn install<S: Store>(store: &mut S, third: Record) -> Result<(), RecordFault> {
 fn amount(rt: &impl Print, title: &str, answer: Result<u32, RunFault>) -> io::Result<()> {
     match answer {
         Ok(price) => print!(rt; "{title} {price}"),
-        Err(fault) => refusal(rt, fault),
+        Err(fault) => refusal(rt, fault.into()),
     }
 }
 
 fn prices(rt: &impl Print, title: &str, third: Option<Record>) -> io::Result<()> {
     let mut cells = [FlatCell::Vacant; CELLS];
     let mut store = Flat::new(&mut cells);
-    if let Some(what) = third {
-        let _ = install(&mut store, what);
+    if let Some(what) = third
+        && let Err(fault) = install(&mut store, what)
+    {
+        return refusal(rt, fault.into());
     }
     let mut scratch = [0u32; CELLS];
     print!(rt; "price, {title}: ")?;
@@ -83,28 +86,32 @@ fn prices(rt: &impl Print, title: &str, third: Option<Record>) -> io::Result<()>
     println!(rt; "")
 }
 
-// Edits in a save until one is refused, at most so many: how many were accepted, and the fault.
+// Edits in a save until one is refused, at most so many: then how many were accepted, and the fault.
 fn edit_until_refused<S: Store, M>(
     session: &mut Session<S, M>,
     most: u32,
-) -> (u32, Option<SessionFault>) {
+) -> Result<(), (u32, SessionFault)> {
+    // The count is the edit's literal too, so that no two edits are alike.
     for i in 0..most {
-        if let Err(fault) = session.rewrite(1, Record::constant(i)) {
-            return (i, Some(fault));
-        }
+        session
+            .rewrite(1, Record::constant(i))
+            .map_err(|fault| (i, fault))?;
     }
-    (most, None)
+    Ok(())
 }
 
+// How many edits a save takes.
 fn shows_edits<S: Store + Drop>(rt: &impl Print, store: S) -> io::Result<()> {
     let mut session = Session::new(store, Size);
+    // Neither can be refused here: the number is free, and there is no save yet.
     let _ = session.make(1, Record::constant(0));
     let _ = session.save();
-    let (accepted, fault) = edit_until_refused(&mut session, 1000);
-    print!(rt; "edits in a save: {accepted} accepted, the next ")?;
-    match fault {
-        Some(fault) => refusal(rt, fault),
-        None => println!(rt; "accepted too"),
+    match edit_until_refused(&mut session, 1000) {
+        Ok(()) => println!(rt; "edits in a save: 1000 accepted"),
+        Err((accepted, fault)) => {
+            print!(rt; "edits in a save: {accepted} accepted, the next ")?;
+            refusal(rt, fault.into())
+        }
     }
 }
 

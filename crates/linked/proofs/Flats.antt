@@ -1,5 +1,5 @@
 -- The links of the use lists, read and written through the cells.
-use Rattle.std.proofs.Common.{◌≡◌, ℕ, zero, suc, ◌+◌, ◌*◌, ◌<◌, ◌≤◌, Bool, true, false, cond, ◌&&◌, ◌||◌, eqb, ltb, List, [], ◌∷◌, length, get_or, set, Some, Option, sym, refl, ap, ◌∙◌, ⊎_elim, arith}
+use Rattle.std.proofs.Common.{◌≡◌, ℕ, zero, suc, ◌+◌, ◌*◌, ◌<◌, ◌≤◌, Bool, true, false, cond, ◌&&◌, ◌||◌, eqb, ltb, List, [], ◌∷◌, length, get_or, set, Some, None, Option, sym, refl, ap, ◌∙◌, subst, ⊎_elim, arith}
 use Rattle.std.proofs.lemmas.Bool.{cases_lt, cases_order, eq-eqb, ne_eqb, lt-ltb, le-ltb}
 use Rattle.std.specs.declared.cmp.Ordering.{Ordering}
 use Rattle.std.specs.declared.cmp.Ordering.TheVariants.{Less, Equal, Greater}
@@ -20,11 +20,28 @@ seat_low A = omega arith
 seat_low B = omega arith
 seat_low C = omega arith
 
-pub node_inside : (x : Node) → x.number < 1024 → place x < 4096
-node_inside x h = let s = seat_low x.seat in omega arith
+-- a node that stands in a list, and what follows the last use
+pub node_found : (x y : Node) → cond (ltb x.number 1024) (Some x) None ≡ Some y → (place y ≡ place x) × (place y < 4096)
+node_found x y e =
+    ⊎_elim
+    (λ l.
+    let a : Some x ≡ Some y = sym (ap (λ b. cond b (Some x) None) (lt-ltb x.number 1024 l)) ∙ e in
+    let is : x ≡ y = cc in
+    let s = seat_low x.seat in
+    (ap place (sym is), subst (λ z. place z < 4096) is (omega arith)))
+    (λ m.
+    let a : ◌≡◌ {A = Option Node} None (Some y) = sym (ap (λ b. cond b (Some x) None) (le-ltb x.number 1024 m)) ∙ e in
+    absurd (cc))
+    (cases_lt x.number 1024)
 
-pub node_outside : (x : Node) → 1024 ≤ x.number → 4096 ≤ place x
-node_outside x h = omega arith
+pub node_lost : (x : Node) → cond (ltb x.number 1024) (Some x) None ≡ None → 4096 ≤ place x
+node_lost x e =
+    ⊎_elim
+    (λ l.
+    let a : Some x ≡ None = sym (ap (λ b. cond b (Some x) None) (lt-ltb x.number 1024 l)) ∙ e in
+    absurd (cc))
+    (λ m. omega arith)
+    (cases_lt x.number 1024)
 
 -- nodes go by number, then by seat
 less_then : (m n : ℕ) (o : Option Ordering) → is_some_and is_lt (partial_ordering_then (Some (nat_cmp m n)) o) ≡ (ltb m n || (eqb m n && is_some_and is_lt o))

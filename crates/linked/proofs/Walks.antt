@@ -22,7 +22,7 @@ walk_start size qs ls is v x next h e = record {
 }
 
 -- one step along a list: the next node is its first, and what follows it is further on
-pub onward : (ls : List ℕ) (w next then z : ℕ) (zs : List ℕ) → Path (λ k. get_or ls k 0) w (z ∷ zs) → Climbs (z ∷ zs) → next ≡ get_or ls w 0 → next < 4096 → then ≡ get_or ls next 0 → (next ≡ z) × Path (λ k. get_or ls k 0) next zs × (next < then)
+onward : (ls : List ℕ) (w next then z : ℕ) (zs : List ℕ) → Path (λ k. get_or ls k 0) w (z ∷ zs) → Climbs (z ∷ zs) → next ≡ get_or ls w 0 → next < 4096 → then ≡ get_or ls next 0 → (next ≡ z) × Path (λ k. get_or ls k 0) next zs × (next < then)
 onward ls w next then z zs p c l less e =
     let is : next ≡ z = l ∙ p.0 in
     let on : Path (λ k. get_or ls k 0) next zs = subst (λ n. Path (λ k. get_or ls k 0) n zs) (sym is) p.1 in

@@ -1,5 +1,6 @@
 -- What the cells of the linked store stand for.
 use Rattle.std.specs.Prelude.{◌≡◌, ℕ, ◌+◌, ◌⊎◌, List, [], ◌∷◌, ◌++◌, map, length, Some, None, Option, slice_index, slice_index_or, slice_set}
+use Rattle.ir.specs.declared.instruction.Record.{Record}
 use Rattle.ir.specs.Instructions.{Instr, plain}
 use Rattle.program.specs.declared.state.State.{State}
 use Rattle.program.specs.declared.state.State.TheVariants.{Free, Loose, Placed as IsPlaced}
@@ -15,6 +16,12 @@ abbrev pub content : Body → Option Instr
 content Vacant = None
 content (Idle r) = Some (plain r)
 content (Placed r) = Some (plain r)
+
+-- the record of a body
+abbrev pub record_of : Body → Option Record
+record_of Vacant = None
+record_of (Idle r) = Some r
+record_of (Placed r) = Some r
 
 -- 1 for a placed body, 0 for any other
 abbrev pub mark : Body → ℕ

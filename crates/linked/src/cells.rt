@@ -1,8 +1,6 @@
 // A cell of the linked store.
-ghost use Rattle.std.specs.Prelude.{◌≡◌, ◌*◌};
-ghost use Rattle.std.specs.Option.{option_map};
-ghost use Rattle.ir.specs.Instructions.{plain};
-ghost use Rattle.linked.specs.LinkedModel.{content, tag, place_body, loosen_body};
+ghost use Rattle.std.specs.Prelude.{◌≡◌, ◌*◌, nat_lt, if◌then◌else◌, Some, None};
+ghost use Rattle.linked.specs.LinkedModel.{content, record_of, tag, place_body, loosen_body};
 ghost use Rattle.linked.specs.Making.{body_with};
 ghost use Rattle.linked.specs.Slots.{seat_of, place, slot_of, with_slot};
 ghost use Rattle.linked.specs.Reading.{slots_of};
@@ -13,8 +11,9 @@ use program::state::State;
 // A store has at most so many numbers.
 pub const MOST_NUMBERS: u32 = 1024;
 
-// A free number is Vacant, a loose one Idle.
-#[derive(Clone, Copy)]
+// A free number is Vacant, a loose one Idle. It is no type of the flat store's too: a cell there holds a rank, by which its
+// model goes.
+#[derive(Clone, Copy, PartialEq, Eq)]
 pub enum Body {
     Vacant,
     Idle(Record),
@@ -22,6 +21,7 @@ pub enum Body {
 }
 
 impl Body {
+    // The state of the body's number.
     pub(crate) fn state(self) -> State
         ensures { result ≡ tag self }
     {
@@ -34,7 +34,7 @@ impl Body {
 
     // The record of a number that is not free.
     pub(crate) fn record(self) -> Option<Record>
-        ensures { option_map plain result ≡ content self }
+        ensures { result ≡ record_of self }
     {
         match self {
             Body::Vacant => None,
@@ -46,10 +46,7 @@ impl Body {
     pub(crate) fn operands(self) -> [Option<u32>; 3]
         ensures { result ≡ slots_of (content self) }
     {
-        match self {
-            Body::Vacant => [None; 3],
-            Body::Idle(what) | Body::Placed(what) => what.operands(),
-        }
+        self.record().map_or([None; 3], Record::operands)
     }
 
     // The body with another record; a free number stays free.
@@ -67,20 +64,14 @@ impl Body {
     pub(crate) fn placed(self) -> Body
         ensures { result ≡ place_body self }
     {
-        match self {
-            Body::Vacant => Body::Vacant,
-            Body::Idle(what) | Body::Placed(what) => Body::Placed(what),
-        }
+        self.record().map_or(Body::Vacant, Body::Placed)
     }
 
     // The body as an unlink leaves it.
     pub(crate) fn loosened(self) -> Body
         ensures { result ≡ loosen_body self }
     {
-        match self {
-            Body::Vacant => Body::Vacant,
-            Body::Idle(what) | Body::Placed(what) => Body::Idle(what),
-        }
+        self.record().map_or(Body::Vacant, Body::Idle)
     }
 }
 
@@ -119,6 +110,13 @@ impl Node {
             seat: Seat::Head,
         }
     }
+
+    // The node, unless it is what follows the last use of a list.
+    pub(crate) fn found(self) -> Option<Node>
+        ensures { result ≡ if nat_lt self.number 1024 then Some self else None }
+    {
+        (self.number < MOST_NUMBERS).then_some(self)
+    }
 }
 
 // What follows the last use of a list: it is greater than every node, so one comparison ends a walk.
@@ -128,7 +126,8 @@ pub const NO_USE: Node = Node {
 };
 
 // The first use of the cell's number; and for each operand the use that follows this one among the uses of its value.
-#[derive(Clone, Copy)]
+// Four fields by name and no array: a seat would have to be shown to be below four wherever one is read.
+#[derive(Clone, Copy, PartialEq, Eq)]
 pub struct Threads {
     pub head: Node,
     pub a: Node,
@@ -164,14 +163,15 @@ impl Threads {
 
 // The neighbours in the order: numbers, or the size of the store at either end. The order is a ring through the size,
 // whose neighbours are the first number and the last, so neither end is a case of its own.
-#[derive(Clone, Copy)]
+#[derive(Clone, Copy, PartialEq, Eq)]
 pub struct Links {
     pub next: u32,
     pub prev: u32,
 }
 
 // `links` are those of a placed number.
-#[derive(Clone, Copy)]
+// Neighbours and uses are numbers, indices of cells: the memory is lent and there is no heap, so nothing points to a cell.
+#[derive(Clone, Copy, PartialEq, Eq)]
 pub struct LinkedCell {
     pub body: Body,
     pub links: Links,

@@ -10,7 +10,7 @@ ghost use Rattle.linked.specs.States.{proper_linked};
 
 use crate::cells::{BLANK, Body, LinkedCell, Links, MOST_NUMBERS};
 use crate::lookup::{body_at, number_of, state_at};
-use crate::{order, records, uses};
+use crate::{order, records};
 use ir::instruction::Record;
 use program::checks;
 use program::fault::StoreFault;
@@ -23,7 +23,7 @@ use program::store::Store;
 // placed, each value's thread goes along its uses, and no operand is free or the instruction itself.
 #[derive(Drop)]
 pub struct Linked<'a> {
-    cells: &'a mut [LinkedCell],
+    pub(crate) cells: &'a mut [LinkedCell],
     ends: Links,
     ghost few: { length cells.now ≤ 1024 },
     ghost forward: { Forward cells.now ends.next },
@@ -33,7 +33,7 @@ pub struct Linked<'a> {
     ghost tied: { Tied (linked_program cells.now ends.next) },
 }
 
-// Makes each cell one of a new store.
+// Makes each cell one of a new store, as the model says it: the library's `fill` with a name for what it fills in.
 fn clear(cells: &mut [LinkedCell])
     ensures { cells.new ≡ replicate (length cells.old) blank_cell }
 {
@@ -46,7 +46,7 @@ impl<'a> Linked<'a> {
         ensures { linked_program result.cells.now result.ends.next ≡ new_program (min (length cells.old) 1024) }
     {
         let n = cells.len().min(MOST_NUMBERS as usize);
-        let part = &mut cells[0..n];
+        let part = &mut cells[..n];
         clear(part);
         Linked {
             cells: part,
@@ -65,7 +65,8 @@ impl<'a> Linked<'a> {
     }
 }
 
-impl<'a> Look for Linked<'a> {
+// What the checks ask of the store.
+impl Look for Linked<'_> {
     ghost program = { λ s. linked_program s.cells.now s.ends.next };
 
     fn find(&self, n: u32) -> Option<State> {
@@ -73,11 +74,12 @@ impl<'a> Look for Linked<'a> {
     }
 
     fn is_unused(&self, n: u32) -> bool {
-        (n as usize) >= self.cells.len() || uses::is_unused(self.cells, n)
+        (n as usize) >= self.cells.len() || self.least_use(n, None).is_none()
     }
 }
 
-impl<'a> Store for Linked<'a> {
+// The commands and the readings.
+impl Store for Linked<'_> {
     ghost program = { λ s. linked_program s.cells.now s.ends.next };
 
     fn make(&mut self, n: u32, what: Record) -> Result<(), StoreFault> {
@@ -117,12 +119,11 @@ impl<'a> Store for Linked<'a> {
     }
 
     fn state(&self, n: u32) -> Result<State, StoreFault> {
-        checks::range(self, n)?;
-        Ok(self.body(n).state())
+        checks::state(self, n)
     }
 
     fn read(&self, n: u32) -> Result<Record, StoreFault> {
-        checks::busy(self, n)?;
+        checks::range(self, n)?;
         self.body(n).record().ok_or(StoreFault::WrongState(n))
     }
 
@@ -148,12 +149,12 @@ impl<'a> Store for Linked<'a> {
 
     fn count_uses(&self, n: u32) -> Result<u32, StoreFault> {
         checks::busy(self, n)?;
-        Ok(uses::count_all(self.cells, n))
+        Ok(self.count_all(n))
     }
 
     fn next_use(&self, n: u32, after: Option<(u32, u8)>) -> Result<Option<(u32, u8)>, StoreFault> {
         checks::busy(self, n)?;
-        Ok(uses::next_use(self.cells, n, after))
+        Ok(self.least_use(n, after))
     }
 
     ghost proper = { λ s. proper_linked s.cells.now s.ends.next s.ends.prev s.few s.forward s.backward s.marked s.tied };

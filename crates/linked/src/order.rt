@@ -1,4 +1,5 @@
 // The order of the linked store, by functions over its cells.
+// A store's cells are written by functions over the lent slice alone, so `ends` and what must hold come with the cells.
 ghost use Rattle.std.specs.Prelude.{◌≡◌, ◌<◌, ◌≤◌, length, slice_index, slice_index_or, slice_set};
 ghost use Rattle.std.specs.List.{insert, remove};
 ghost use Rattle.program.specs.Programs.{index_of};
@@ -33,6 +34,20 @@ fn set_links(cells: &mut [LinkedCell], ends: Links, k: u32, links: Links) -> Lin
     }
 }
 
+// Lets b follow a.
+fn join(cells: &mut [LinkedCell], ends: Links, a: u32, b: u32) -> Links
+    requires a { a ≤ length cells.old }
+    requires b { b ≤ length cells.old }
+    ensures nexts { nexts cells.new result.next ≡ slice_set (nexts cells.old ends.next) a b }
+    ensures prevs { prevs cells.new result.prev ≡ slice_set (prevs cells.old ends.prev) b a }
+    ensures rest { OnlyLinks cells.old cells.new }
+{
+    let ahead = links_at(cells, ends, a);
+    let ends = set_links(cells, ends, a, Links { next: b, ..ahead });
+    let behind = links_at(cells, ends, b);
+    set_links(cells, ends, b, Links { prev: a, ..behind })
+}
+
 // Puts n between t and the node before t.
 fn splice_in(cells: &mut [LinkedCell], ends: Links, n: u32, t: u32) -> Links
     requires n { n ≤ length cells.old }
@@ -43,11 +58,8 @@ fn splice_in(cells: &mut [LinkedCell], ends: Links, n: u32, t: u32) -> Links
     ensures rest { OnlyLinks cells.old cells.new }
 {
     let m = links_at(cells, ends, t).prev;
-    let before = links_at(cells, ends, m);
-    let one = set_links(cells, ends, m, Links { next: n, ..before });
-    let two = set_links(cells, one, n, Links { next: t, prev: m });
-    let behind = links_at(cells, two, t);
-    set_links(cells, two, t, Links { prev: n, ..behind })
+    let ends = join(cells, ends, m, n);
+    join(cells, ends, n, t)
 }
 
 // Takes n out from between the nodes beside it.
@@ -59,11 +71,8 @@ fn splice_out(cells: &mut [LinkedCell], ends: Links, n: u32) -> Links
     ensures prevs { prevs cells.new result.prev ≡ prev_out (nexts cells.old ends.next) (prevs cells.old ends.prev) n }
     ensures rest { OnlyLinks cells.old cells.new }
 {
-    let Links { next: t, prev: m } = links_at(cells, ends, n);
-    let before = links_at(cells, ends, m);
-    let one = set_links(cells, ends, m, Links { next: t, ..before });
-    let behind = links_at(cells, one, t);
-    set_links(cells, one, t, Links { prev: m, ..behind })
+    let Links { next, prev } = links_at(cells, ends, n);
+    join(cells, ends, prev, next)
 }
 
 // Writes the body of n alone.

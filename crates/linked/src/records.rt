@@ -8,7 +8,8 @@ use crate::cells::{Body, LinkedCell, Seat};
 use crate::lookup::body_at;
 use crate::{order, threads};
 
-// Gives n another body: the operands that n has had go out of the use lists, and the new ones go in.
+// Gives n another body: the operands that n has had go out of the use lists, and the new ones go in, each at a seat of its
+// own. A store's cells are written by functions over the lent slice alone, so what must hold of them stands here.
 pub(crate) fn put(cells: &mut [LinkedCell], n: u32, body: Body)
     requires listed { Listed cells.old }
     requires ranged { Ranged cells.old }

@@ -1,4 +1,5 @@
-// The use lists, read and written node by node.
+// The use lists, read and written node by node. A store's cells are written by functions over the lent slice alone, so what
+// must hold of the lists stands in these contracts.
 ghost use Rattle.std.specs.Prelude.{◌≡◌, ℕ, ◌+◌, ◌*◌, ◌<◌, ◌≤◌, List, length, slice_index, slice_set};
 ghost use Rattle.linked.specs.Paths.{low};
 ghost use Rattle.linked.specs.Uses.{spots};

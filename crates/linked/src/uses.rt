@@ -1,14 +1,15 @@
-// Readings of the use lists.
+// Readings of the use lists: methods of the store, since they rest on what holds of every store.
 ghost use Rattle.std.specs.Prelude.{◌≡◌, ◌+◌, ◌*◌, ◌<◌, map, length, slice_index, slice_index_or};
-ghost use Rattle.program.specs.Uses.{uses_from, unused, least_beyond};
+ghost use Rattle.program.specs.Uses.{uses_from, least_beyond};
 ghost use Rattle.linked.specs.LinkedModel.{content, bodies};
 ghost use Rattle.linked.specs.Paths.{low};
 ghost use Rattle.linked.specs.Uses.{spots};
 ghost use Rattle.linked.specs.Slots.{seat_of, place, links, entry};
-ghost use Rattle.linked.specs.Facts.{table_in, Listed};
+ghost use Rattle.linked.specs.Facts.{table_in};
 ghost use Rattle.linked.specs.Reading.{decode, Cut};
 
-use crate::cells::{LinkedCell, MOST_NUMBERS, Node, Seat};
+use crate::cells::{LinkedCell, Node, Seat};
+use crate::linked::Linked;
 use crate::threads;
 
 // The value read at a node.
@@ -30,12 +31,9 @@ fn use_after(cells: &[LinkedCell], node: Node) -> Option<(u32, u8)>
     requires { node.number < length cells.now }
     ensures { result ≡ decode (slice_index (links cells.now) (place node)) }
 {
-    let next = threads::slot(cells, node);
-    if next.number < MOST_NUMBERS {
-        Some((next.number, next.seat.position()))
-    } else {
-        None
-    }
+    threads::slot(cells, node)
+        .found()
+        .map(|next| (next.number, next.seat.position()))
 }
 
 // The node right behind x among all nodes, in any list.
@@ -51,20 +49,8 @@ fn behind(x: Node) -> Node
     }
 }
 
-// The node of v's list that the uses beyond x follow.
-fn node_at(cells: &[LinkedCell], v: u32, x: Node) -> Node
-    requires listed { Listed cells.now }
-    requires v { v < length cells.now }
-    requires x { x.number < length cells.now }
-    ensures { place result ≡ low (place x + 1) (4 * v) (spots v 0 (table_in cells.now)) }
-{
-    if read_at(cells, x) == Some(v) {
-        return x;
-    }
-    threads::node_before(cells, v, behind(x))
-}
-
 // The seat of a position; the last for any beyond it.
+// By the project's rule a use is a pair of numbers, user and position, so a position comes as a number.
 fn seat_at(position: u8) -> Seat
     ensures { Cut position (seat_of result) }
 {
@@ -76,45 +62,48 @@ fn seat_at(position: u8) -> Seat
     }
 }
 
-// The least use of v beyond a pair, or the least of all. It takes one step where the pair is a use of v.
-pub(crate) fn next_use(cells: &[LinkedCell], v: u32, after: Option<(u32, u8)>) -> Option<(u32, u8)>
-    requires listed { Listed cells.now }
-    requires v { v < length cells.now }
-    ensures { result ≡ least_beyond after (uses_from v 0 (map content (bodies cells.now))) }
-{
-    match after {
-        None => use_after(cells, Node::head(v)),
-        Some((user, position)) => {
-            if (user as usize) >= cells.len() {
-                return None;
+impl<'a> Linked<'a> {
+    // The node of v's list that the uses beyond x follow.
+    fn node_at(&self, v: u32, x: Node) -> Node
+        requires v { v < length self.now.cells.now }
+        requires x { x.number < length self.now.cells.now }
+        ensures { place result ≡ low (place x + 1) (4 * v) (spots v 0 (table_in self.now.cells.now)) }
+    {
+        if read_at(self.cells, x) == Some(v) {
+            return x;
+        }
+        threads::node_before(self.cells, v, behind(x))
+    }
+
+    // The least use of v beyond a pair, or the least of all. It takes one step where the pair is a use of v.
+    pub(crate) fn least_use(&self, v: u32, after: Option<(u32, u8)>) -> Option<(u32, u8)>
+        requires { v < length self.now.cells.now }
+        ensures { result ≡ least_beyond after (uses_from v 0 (map content (bodies self.now.cells.now))) }
+    {
+        match after {
+            None => use_after(self.cells, Node::head(v)),
+            Some((user, position)) => {
+                if (user as usize) >= self.cells.len() {
+                    return None;
+                }
+                let seat = seat_at(position);
+                let w = self.node_at(v, Node { number: user, seat });
+                use_after(self.cells, w)
             }
-            let seat = seat_at(position);
-            let w = node_at(cells, v, Node { number: user, seat });
-            use_after(cells, w)
         }
     }
-}
 
-// Whether nothing reads a number.
-pub(crate) fn is_unused(cells: &[LinkedCell], n: u32) -> bool
-    requires listed { Listed cells.now }
-    requires within { n < length cells.now }
-    ensures { result ≡ unused (uses_from n 0 (map content (bodies cells.now))) }
-{
-    next_use(cells, n, None).is_none()
-}
-
-// How many uses v has, by a walk of its list.
-pub(crate) fn count_all(cells: &[LinkedCell], v: u32) -> u32
-    requires listed { Listed cells.now }
-    requires v { v < length cells.now }
-    ensures { result ≡ length (uses_from v 0 (map content (bodies cells.now))) }
-{
-    let mut count: u32 = 0;
-    let mut next = threads::slot(cells, Node::head(v));
-    while next.number < MOST_NUMBERS {
-        count += 1;
-        next = threads::slot(cells, next);
+    // How many uses v has, by a walk of its list: the one place that walks to its end, so the walk is no iterator of its own.
+    pub(crate) fn count_all(&self, v: u32) -> u32
+        requires { v < length self.now.cells.now }
+        ensures { result ≡ length (uses_from v 0 (map content (bodies self.now.cells.now))) }
+    {
+        let mut count: u32 = 0;
+        let mut node = Node::head(v);
+        while let Some(next) = threads::slot(self.cells, node).found() {
+            count += 1;
+            node = next;
+        }
+        count
     }
-    count
 }

@@ -9,6 +9,7 @@ pub enum State {
     Placed,
 }
 
+// By `matches!`: one state is asked for here, and a set of them reads the same.
 impl State {
     pub fn is_free(self) -> bool
         ensures { result ≡ is_free self }

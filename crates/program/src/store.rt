@@ -46,6 +46,7 @@ pub trait Store {
     fn size(&self) -> u32
         ensures { result ≡ size (program self.now) };
 
+    // Whether a number is free, loose or placed.
     fn state(&self, n: u32) -> Result<State, StoreFault>
         ensures { result ≡ state_answer (program self.now) n };
 

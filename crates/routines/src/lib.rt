@@ -44,6 +44,7 @@ pub fn detach_for_good<S: Store, M>(
     ensures { ForGood n other (meaning S.program session.old) (meaning S.program session.new) result }
 {
     let token = session.hold().map_err(Stopped::NotHeld)?;
+    // Whether it was refused shows in the session, of which the contract speaks.
     let _ = session.detach(n);
     session.accept_held(token)?;
     could_detach(session, other)

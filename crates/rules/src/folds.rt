@@ -20,7 +20,7 @@ fn known<S: Store>(store: &S, x: Option<u32>) -> Option<u32>
     }
 }
 
-// Rule 2: an operation on constants becomes the constant of its value.
+// Rule 2: an operation on constants becomes the constant of its value. Each operand has its own part in the value.
 pub fn fold<S: Store>(store: &S, n: u32) -> Option<Change>
     ensures { change_of result ≡ model_fold (S.program store.now) n }
 {

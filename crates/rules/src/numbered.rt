@@ -61,7 +61,8 @@ impl Rule {
     }
 }
 
-// The change that the rule of a number, 1 to 6, makes at n; there is no other rule.
+// The change that the rule of a number, 1 to 6, makes at n; there is no other rule, and so no change. It is asked by number,
+// since what was promised for any number has to stand.
 pub fn change_at<S: Store>(store: &S, rule: u32, n: u32) -> Option<Change>
     ensures { change_of result ≡ rule_at (S.program store.now) rule n }
 {

@@ -7,7 +7,7 @@ use crate::change::Change;
 use program::reading::record_at;
 use program::store::Store;
 use runs::running::is_out;
-use runs::walk::Cursor;
+use runs::walk::Walk;
 
 // Rule 5: what is no out gives way to the first instruction before it with an equal record.
 pub fn twin<S: Store>(store: &S, n: u32) -> Option<Change>
@@ -17,8 +17,7 @@ pub fn twin<S: Store>(store: &S, n: u32) -> Option<Change>
     if is_out(what) {
         return None;
     }
-    let mut cursor = Cursor::start(store);
-    while let Some((m, other)) = cursor.next(store) {
+    for (m, other) in Walk::new(store) {
         if m == n {
             return None;
         }

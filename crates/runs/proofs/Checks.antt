@@ -14,18 +14,13 @@ use Rattle.runs.specs.Answers.{zeros, scratch_fault, ill_formed, price_fault, in
 use Rattle.runs.specs.Scratch.{broken_words}
 use Rattle.runs.proofs.Tests.{broken_law}
 
-pub too_short : (p : Program) (m n : ℕ) → n ≡ size p → m < n → Err (ScratchTooShort n) ≡ checked (price_fault p m)
-too_short p m n e l =
-    let f : scratch_fault p m ≡ Some (ScratchTooShort (size p)) = cond-true (ltb m (size p)) (Some (ScratchTooShort (size p))) None (lt-ltb m (size p) (omega arith)) in
-    ap (λ x. Err (ScratchTooShort x)) e ∙ sym (ap (λ o. checked (option_or o (ill_formed (broken p)))) f)
-
 -- what the marks find
 pub form_found :
-    (p : Program) → Proper p → (m : ℕ) → size p ≤ m → (words : List ℕ) → words ≡ zeros m → (o : Option ℕ)
-    → o ≡ broken_words (at p) words p.order → checked (ill_formed o) ≡ checked (price_fault p m)
-form_found p t m l words z o e =
-    let found : o ≡ broken p
-    = e ∙ ap (λ w. broken_words (at p) w p.order) z
+    (p : Program) → Proper p → (m : ℕ) → size p ≤ m → (words : List ℕ) → words ≡ zeros m
+    → checked (ill_formed (broken_words (at p) words p.order)) ≡ checked (price_fault p m)
+form_found p t m l words z =
+    let found : broken_words (at p) words p.order ≡ broken p
+    = ap (λ w. broken_words (at p) w p.order) z
     ∙ broken_law p m (λ k i. let h = busy_inside p k (t.placed k i) in omega arith) in
     let f : scratch_fault p m ≡ None = cond-false (ltb m (size p)) (Some (ScratchTooShort (size p))) None (le-ltb m (size p) l) in
     ap (λ x. checked (ill_formed x)) found ∙ sym (ap (λ x. checked (option_or x (ill_formed (broken p)))) f)

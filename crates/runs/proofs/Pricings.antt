@@ -1,18 +1,17 @@
 -- Prices and runs over zero scratch words are those of the program.
-use Rattle.std.proofs.Common.{◌≡◌, ℕ, ◌<◌, ◌≤◌, cond, eqb, ◌⊎◌, List, [], ◌∷◌, length, Some, None, sym, refl, ap, ◌∙◌, inl, inr, ⊎_elim, arith}
+use Rattle.std.proofs.Common.{◌≡◌, ℕ, ◌≤◌, cond, eqb, ◌⊎◌, List, [], ◌∷◌, length, sym, refl, ap, ◌∙◌, inl, inr, ⊎_elim, arith}
 use mathlib.Core.Path.{fun_ext}
 use Rattle.std.proofs.lemmas.List.{length-replicate}
-use Rattle.std.proofs.lemmas.Bool.{eq-eqb, cond-true, le-ltb, lt-ltb}
+use Rattle.std.proofs.lemmas.Bool.{eq-eqb, cond-true}
 use Rattle.ir.specs.Instructions.{Instr}
 use Rattle.program.specs.Programs.{Program, at, size, takes, In, Before, Distinct, Operands, WellFormed}
 use Rattle.program.specs.Proper.{Proper}
 use Rattle.program.proofs.Accepting.{busy_inside}
 use Rattle.program.proofs.Operands.{operands_map}
 use Rattle.program.proofs.Orders.{before_head}
-use Rattle.runs.specs.declared.fault.RunFault.TheVariants.{ScratchTooShort}
 use Rattle.runs.specs.Runs.{upd, nothing}
 use Rattle.runs.specs.Prices.{Costing, stamp_of, price_from, price}
-use Rattle.runs.specs.Answers.{zeros, scratch_fault}
+use Rattle.runs.specs.Answers.{zeros}
 use Rattle.runs.specs.Scratch.{word_at, price_words}
 use Rattle.runs.proofs.Valuations.{arg_cong}
 use Rattle.runs.proofs.Words.{price_law}
@@ -58,9 +57,3 @@ price_any c p t f words h =
     price_law c (at p) 0 words p.order (λ k i. let l = busy_inside p k (t.placed k i) in omega arith)
     ∙ price_same c (at p) 0 (word_at words) nothing p.order t.distinct
     (λ k i. operands_map (at p k) (λ j. Before j k p.order) (λ j. (word_at words j ≡ nothing j) ⊎ Before j k p.order) (λ j q. inr q) (f k i))
-
-pub room_enough : (p : Program) (m : ℕ) → size p ≤ m → scratch_fault p m ≡ None
-room_enough p m h = ap (λ b. cond b (Some (ScratchTooShort (size p))) None) (le-ltb m (size p) h)
-
-pub room_short : (p : Program) (m : ℕ) → m < size p → scratch_fault p m ≡ Some (ScratchTooShort (size p))
-room_short p m h = ap (λ b. cond b (Some (ScratchTooShort (size p))) None) (lt-ltb m (size p) h)

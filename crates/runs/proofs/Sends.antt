@@ -1,7 +1,7 @@
 -- Outputs: how many they are, and the words that they are written to.
-use Rattle.std.proofs.Common.{◌≡◌, ℕ, suc, ◌+◌, ◌*◌, ◌<◌, ◌≤◌, Bool, true, false, cond, List, [], ◌∷◌, ◌++◌, length, take, drop, set, sym, refl, ap, ◌∙◌, arith}
+use Rattle.std.proofs.Common.{◌≡◌, ℕ, suc, ◌+◌, ◌*◌, ◌<◌, ◌≤◌, Bool, true, false, cond, List, [], ◌∷◌, ◌++◌, length, map, take, drop, set, sym, refl, ap, ◌∙◌, arith}
 use mathlib.Core.Path.{fun_ext}
-use mir.Val.{bool_byte}
+use Rattle.std.specs.List.{filter}
 use Rattle.std.proofs.lemmas.List.{length-replicate, length-set, take-append-drop, take_more_set, drop-set-lt, append_assoc}
 use Rattle.ir.specs.Instructions.{Instr}
 use Rattle.program.specs.Programs.{Program, at, size}
@@ -14,9 +14,15 @@ use Rattle.runs.specs.Scratch.{run_words, put_pairs}
 use Rattle.runs.proofs.Words.{run_law}
 use Rattle.runs.proofs.Tests.{zero_word}
 
-pub byte_bound : (b : Bool) → bool_byte b ≤ 1
-byte_bound true = omega arith
-byte_bound false = omega arith
+-- the outs are those that pass the test
+one_more : (b : Bool) (x : Instr) (xs : List Instr) → cond b 1 0 + length xs ≡ length (cond b (x ∷ xs) xs)
+one_more true x xs = omega arith
+one_more false x xs = omega arith
+
+pub passing_outs : (of : ℕ → Instr) (ns : List ℕ) → length (filter (λ i. out? i.op) (map of ns)) ≡ count_outs of ns
+passing_outs of [] = refl
+passing_outs of (n ∷ ns) =
+    sym (one_more (out? (of n).op) (of n) (filter (λ i. out? i.op) (map of ns))) ∙ ap (λ k. cond (out? (of n).op) 1 0 + k) (passing_outs of ns)
 
 one_or_none : (b : Bool) → cond b 1 0 ≤ 1
 one_or_none true = omega arith

@@ -1,9 +1,8 @@
 -- A walk along the order, from the first number by the next one each time.
-use Rattle.std.specs.Prelude.{◌≡◌, ℕ, ◌<◌, List, [], ◌∷◌, drop, Some, None, Option}
+use Rattle.std.specs.Prelude.{◌≡◌, ℕ, ◌<◌, Bool, true, List, [], ◌∷◌, drop, Some, None, Option}
 use Rattle.ir.specs.declared.instruction.Record.{Record}
 use Rattle.ir.specs.Instructions.{plain}
-use Rattle.program.specs.Programs.{Program, size, at, index_of, In}
-use Rattle.program.specs.Readings.{next_of}
+use Rattle.program.specs.Programs.{Program, size, at, index_of, has, In}
 
 -- what is left of the order from a number on; nothing where there is no number
 abbrev pub from : Option ℕ → List ℕ → List ℕ
@@ -14,6 +13,11 @@ from (Some n) ns = drop (index_of n ns) ns
 abbrev pub Stands : Option ℕ → List ℕ → Type 0
 Stands None ns = Unit {0}
 Stands (Some n) ns = In n ns
+
+-- the same as a test, so that a walk's type can carry it
+abbrev pub stands? : Option ℕ → List ℕ → Bool
+stands? None ns = true
+stands? (Some n) ns = has n ns
 
 -- one step of a walk from `was` to `is`, over n with its record
 pub record Step (p : Program) (was is : Option ℕ) (n : ℕ) (what : Record) : Type 0 where
@@ -26,9 +30,3 @@ pub record Step (p : Program) (was is : Option ℕ) (n : ℕ) (what : Record) : 
 abbrev pub Moved : Program → Option ℕ → Option ℕ → Option (ℕ × Record) → Type 0
 Moved p was is None = from was p.order ≡ []
 Moved p was is (Some x) = Step p was is x.0 x.1
-
--- the number that the walk was at, with its record, and the walk is then at the number behind it; or the end of the walk
-abbrev pub Told : Program → Option ℕ → Option ℕ → Option (ℕ × Record) → Type 0
-Told p None is r = (is ≡ None) × (r ≡ None)
-Told p (Some n) is None = ⊥
-Told p (Some n) is (Some x) = (x.0 ≡ n) × (plain x.1 ≡ at p n) × (is ≡ next_of p n)

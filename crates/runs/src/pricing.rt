@@ -10,8 +10,8 @@ ghost use Rattle.runs.specs.Scratch.{word_at, price_words, stamps_left};
 use crate::cost::CostModel;
 use crate::fault::RunFault;
 use crate::form::check_form;
-use crate::scratch::{Scratch, word_of};
-use crate::walk::Cursor;
+use crate::scratch::{Scratch, check_scratch, word_of};
+use crate::walk::Walk;
 use ir::instruction::Record;
 use program::store::Store;
 
@@ -30,8 +30,7 @@ pub(crate) fn walk_price<S: Store, M: CostModel>(store: &S, words: &mut [u32]) -
     ensures words { words.new ≡ stamps_left M.costing (at (S.program store.now)) words.old (S.program store.now).order }
 {
     let mut total = 0;
-    let mut cursor = Cursor::start(store);
-    while let Some((n, what)) = cursor.next(store) {
+    for (n, what) in Walk::new(store) {
         let stamp = stamp_of::<M>(words, what);
         words[n as usize] = stamp;
         total = M::total(total, stamp);
@@ -46,10 +45,7 @@ pub fn price_again<S: Store, M: CostModel>(store: &S, words: &mut [u32]) -> Resu
     ensures words { words.new ≡ either (scratch_fault (S.program store.now) (length words.old)) (stamps_left M.costing (at (S.program store.now)) words.old (S.program store.now).order) words.old }
     ensures formed { WellFormed (S.program store.now) → size (S.program store.now) ≤ length words.old → result ≡ Ok (model_price M.costing (S.program store.now)) }
 {
-    let size = store.size();
-    if words.len() < size as usize {
-        return Err(RunFault::ScratchTooShort(size));
-    }
+    check_scratch(store, words.len())?;
     Ok(walk_price::<S, M>(store, words))
 }
 

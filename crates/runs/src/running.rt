@@ -10,7 +10,7 @@ ghost use Rattle.runs.specs.Scratch.{word_at, run_words, put_pairs};
 use crate::fault::RunFault;
 use crate::form::check_form;
 use crate::scratch::{Scratch, word_of};
-use crate::walk::Cursor;
+use crate::walk::Walk;
 use ir::instruction::Record;
 use ir::operation::Op;
 use program::store::Store;
@@ -19,19 +19,14 @@ use program::store::Store;
 pub fn is_out(what: Record) -> bool
     ensures { result ≡ out? what.op }
 {
-    matches!(what.op, Op::Out)
+    what.op == Op::Out
 }
 
 // How many outs are placed.
 fn count_outs<S: Store>(store: &S) -> u32
     ensures { result ≡ outs (S.program store.now) }
 {
-    let mut count = 0;
-    let mut cursor = Cursor::start(store);
-    while let Some((_, what)) = cursor.next(store) {
-        count += u32::from(is_out(what));
-    }
-    count
+    Walk::new(store).filter(|(_, what)| is_out(*what)).count() as u32
 }
 
 // The value of an instruction whose operands' values lie in the words.
@@ -43,6 +38,7 @@ fn value_of(words: &[u32], inputs: &[u32], what: Record) -> u32
 }
 
 // Writes channel and value behind so many pairs if the instruction is an out, and answers how many pairs there are then.
+// The place is a count of pairs, and no slice of what is left of the output: the contracts speak of the output as one list.
 fn send(what: Record, value: u32, output: &mut [u32], pairs: usize) -> usize
     requires { 2 * (pairs + length (sent (plain what) value)) ≤ length output.old }
     ensures answer { result ≡ pairs + length (sent (plain what) value) }
@@ -63,8 +59,7 @@ fn walk_run<S: Store>(store: &S, inputs: &[u32], words: &mut [u32], output: &mut
     ensures { output.new ≡ put_pairs output.old 0 (run_words (at (S.program store.now)) inputs.now words.old (S.program store.now).order) }
 {
     let mut pairs = 0;
-    let mut cursor = Cursor::start(store);
-    while let Some((n, what)) = cursor.next(store) {
+    for (n, what) in Walk::new(store) {
         let value = value_of(words, inputs, what);
         words[n as usize] = value;
         pairs = send(what, value, output, pairs);

@@ -28,6 +28,7 @@ pub enum Call {
 }
 
 // The depth of a save or a hold, 0 for any other accepted call; or why the call was refused.
+// It is 0 and not an option, since a line of the bench answers 0 where there is no depth.
 pub type Reply = Result<u32, SessionFault>;
 
 fn done(answer: Result<(), SessionFault>) -> Reply

@@ -16,8 +16,8 @@ const CELLS: usize = 32;
 
 // Enters the script line by line.
 fn enter<S: Store>(rt: &impl Print, store: &mut S) -> io::Result<()> {
-    for line in script::LINES.iter() {
-        let made = script::install(store, *line);
+    for line in script::LINES {
+        let made = script::install(store, line);
         show::step(rt, line.number, line.note, made)?;
     }
     Ok(())

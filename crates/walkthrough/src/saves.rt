@@ -77,12 +77,7 @@ fn same_program<S: Store, T: Store, M>(one: &mut Session<S, M>, other: &mut Sess
     if size != other.size() || one.first() != other.first() {
         return false;
     }
-    for n in 0..size {
-        if !same_at(one, other, n) {
-            return false;
-        }
-    }
-    true
+    (0..size).all(|n| same_at(one, other, n))
 }
 
 // Enters what survives in a second session, and says whether it comes to the same program.

@@ -14,6 +14,7 @@ pub fn refusal<F: Into<Report>>(rt: &impl Print, fault: F) -> io::Result<()> {
     println!(rt; "refused: {report}")
 }
 
+// A line of the script and what came of it. Here and below what was accepted is said in words of its own.
 pub fn step(
     rt: &impl Print,
     n: u32,
@@ -28,6 +29,7 @@ pub fn step(
     }
 }
 
+// The answer of a command.
 pub fn verdict(rt: &impl Print, what: &str, answer: Result<(), StoreFault>) -> io::Result<()> {
     print!(rt; "  {what}: ")?;
     match answer {
@@ -36,11 +38,17 @@ pub fn verdict(rt: &impl Print, what: &str, answer: Result<(), StoreFault>) -> i
     }
 }
 
+// A loop is shown to end: no number has more uses than this, three by each of 1024 numbers.
+const MOST_USES: usize = 3072;
+
+// No program has more placed numbers than this.
+const MOST_NUMBERS: usize = 1024;
+
 // The use list, read from the least use up until there is none.
 pub fn uses<S: Store>(rt: &impl Print, store: &S, n: u32) -> io::Result<()> {
     print!(rt; "  uses of {n}:")?;
     let mut after = None;
-    for _ in 0..3072 {
+    for _ in 0..MOST_USES {
         let Ok(Some((user, position))) = store.next_use(n, after) else {
             break;
         };
@@ -57,7 +65,7 @@ where
     requires { F.IsAlwaysCallable tell }
 {
     let mut at = first;
-    for _ in 0..1024 {
+    for _ in 0..MOST_NUMBERS {
         let Some(n) = at else {
             break;
         };
@@ -70,6 +78,7 @@ where
     Ok(())
 }
 
+// The answer of a price.
 pub fn price(rt: &impl Print, title: &str, answer: Result<u32, RunFault>) -> io::Result<()> {
     print!(rt; "  {title}: ")?;
     match answer {
@@ -78,6 +87,7 @@ pub fn price(rt: &impl Print, title: &str, answer: Result<u32, RunFault>) -> io:
     }
 }
 
+// The answer of a run, and the channels and values that it wrote.
 pub fn outputs(rt: &impl Print, answer: Result<u32, RunFault>, output: &[u32]) -> io::Result<()> {
     let count = match answer {
         Ok(count) => count as usize,
@@ -99,6 +109,7 @@ fn anchor(rt: &impl Print, before: Option<u32>) -> io::Result<()> {
     }
 }
 
+// A call, with no line end. In the program's own words: the library has no text for a call that is promised.
 pub fn call(rt: &impl Print, call: Call) -> io::Result<()> {
     print!(rt; "  ")?;
     match call {

@@ -62,7 +62,7 @@ impl Journal {
         self.marks[..self.depth].last().copied()
     }
 
-    // Whether the newest save is at the depth and of the kind.
+    // Whether the newest save is at the depth and of the kind, two words as the calls have them.
     pub(crate) fn check_newest(&self, depth: u32, held: bool) -> Result<(), SessionFault>
         ensures { result ≡ closable (marks self.now) depth held }
     {

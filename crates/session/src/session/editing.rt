@@ -34,6 +34,7 @@ impl<S: Store, M> Session<S, M> {
         let back = opposite(&self.store, command);
         apply(&mut self.store, command)?;
         if let Err(fault) = self.journal.push(back) {
+            // The store accepts it: it takes back what was just accepted.
             let _ = apply(&mut self.store, back);
             return Err(fault);
         }
@@ -82,6 +83,7 @@ impl<S: Store, M> Session<S, M> {
     {
         while let Some((user, position)) = first_use(&self.store, n) {
             let what = swapped(record_at(&self.store, user), position, m);
+            // It is accepted: m may stand for n, and there is a record for each use.
             let _ = self.edit(Command::Rewrite(user, what));
         }
     }

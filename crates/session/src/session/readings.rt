@@ -1,4 +1,5 @@
 // Readings of the session's program. None of them changes anything.
+// By the project's rule a session's readings take the session for writing (`&mut self`) and promise that nothing changed.
 ghost use Rattle.ir.specs.Instructions.{plain};
 ghost use Rattle.std.specs.Result.{result_map_both};
 ghost use Rattle.program.specs.Programs.{size};

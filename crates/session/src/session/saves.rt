@@ -30,11 +30,12 @@ impl<S: Store, M> Session<S, M> {
         ensures { Rewound S.program self.old self.new }
     {
         while let Some(record) = self.journal.pop() {
+            // The store accepts it: it takes back the newest edit that still stands.
             let _ = apply(&mut self.store, record);
         }
     }
 
-    // Removes the newest save, if it is at the depth and of the kind.
+    // Removes the newest save, if it is at the depth and of the kind, which come as two words, as the calls have them.
     fn close_kept(&mut self, depth: u32, held: bool) -> Result<(), SessionFault>
         ensures { Stepped S.program (accept_step depth held) self.old self.new result }
     {
@@ -44,6 +45,7 @@ impl<S: Store, M> Session<S, M> {
     }
 
     // The same, and takes back what was done since.
+    // It differs from close_kept by the rewind alone; one function for both would need a flag for it.
     fn close_undone(&mut self, depth: u32, held: bool) -> Result<(), SessionFault>
         ensures { Stepped S.program (revert_step depth held) self.old self.new result }
     {

@@ -5,6 +5,6 @@ use Rattle.flat.proofs.commands.unlink.Goals as goal
 
 pub returns : goal.returns
 returns c =
-    unlinked_cells c.args.cells.now c.requires.sound c.args.n c.requires.allowed c.place_of-at.result c.place_of-at.ensures
-    c.rerank.new.cells (c.rerank.ensures (down c.place_of-at.result) (λ k r h p. search rules)) c.cell_at-cell.result c.unranked.result c.cell_at-cell.ensures
+    unlinked_cells c.args.cells.now c.requires.sound c.args.n c.requires.allowed c.args.at c.requires.place
+    c.rerank.new.cells (c.rerank.ensures (down c.args.at) (λ k r h p. search rules)) c.cell_at-cell.result c.unranked.result c.cell_at-cell.ensures
     c.unranked.ensures.content c.unranked.ensures.rank

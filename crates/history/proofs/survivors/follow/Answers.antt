@@ -1,4 +1,4 @@
-use Rattle.std.proofs.Common.{◌≤◌, length, refl, arith}
+use Rattle.std.proofs.Common.{◌≤◌, length, refl, sym, ◌∙◌, arith}
 use Rattle.std.proofs.lemmas.List.{drop-set-lt}
 use Rattle.history.proofs.Piles.{piled_work, piled_accept, piled_revert}
 use Rattle.history.proofs.survivors.follow.Goals as goal
@@ -9,7 +9,17 @@ returns-in-Work c =
     let kept = c.args.kept.now in (
       c.requires.0,
       λ n h. drop-set-lt n kept p.len c.args.call h,
-      λ b h. piled_work kept p.starts p.depth p.len c.args.call c.args.reply c.in-Ok.field-0 b c.in-Ok.is c.in-Work.ensures c.requires.1 h,
+      λ b h. piled_work kept p.starts p.depth p.len c.args.call c.args.reply b (sym c.is_err.ensures.value ∙ c.if-is_err.false) c.in-Work.ensures c.requires.1 h,
+    )
+
+pub returns-in-Accept : goal.returns-in-Accept
+returns-in-Accept c =
+    let p = c.args.pile.now in
+    let room : p.depth ≤ length p.starts = omega arith in (
+      omega arith,
+      λ n h. refl,
+      λ b h. rw c.saturating_sub-pile.ensures
+          (piled_accept c.args.kept.now p.starts p.depth p.len c.args.call c.args.reply b (sym c.is_err.ensures.value ∙ c.if-is_err.false) c.in-Accept.ensures room h),
     )
 
 pub returns-then-pile-gt0 : goal.returns-then-pile-gt0
@@ -18,14 +28,5 @@ returns-then-pile-gt0 c =
     let room : p.depth ≤ length p.starts = omega arith in (
       omega arith,
       λ n h. refl,
-      λ b h. piled_accept c.args.kept.now p.starts p.depth p.len c.args.call c.args.reply c.in-Ok.field-0 b c.in-Ok.is c.in-Accept.ensures c.if-pile-gt0.true room h,
-    )
-
-pub returns-then-pile-gt0-2 : goal.returns-then-pile-gt0-2
-returns-then-pile-gt0-2 c =
-    let p = c.args.pile.now in
-    let room : p.depth ≤ length p.starts = omega arith in (
-      omega arith,
-      λ n h. refl,
-      λ b h. piled_revert c.args.kept.now p.starts p.depth p.len c.args.call c.args.reply c.in-Ok.field-0 b c.in-Ok.is c.in-Revert.ensures c.if-pile-gt0-2.true room h,
+      λ b h. piled_revert c.args.kept.now p.starts p.depth p.len c.args.call c.args.reply b (sym c.is_err.ensures.value ∙ c.if-is_err.false) c.in-Revert.ensures c.if-pile-gt0.true room h,
     )

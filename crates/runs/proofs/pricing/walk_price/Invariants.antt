@@ -1,17 +1,14 @@
-use Rattle.std.proofs.Common.{◌≡◌, length}
+use Rattle.std.proofs.Common.{◌≡◌}
 use Rattle.program.specs.Programs.{at}
 use Rattle.runs.specs.Scratch.{price_words, stamps_left}
-use Rattle.runs.specs.Walks.{from, Stands}
+use Rattle.runs.specs.Walks.{from}
 use Rattle.runs.proofs.pricing.walk_price.Given as goal
 
 abbrev pub invariant-loop-n : goal.invariant-loop-n
 invariant-loop-n g l =
+    let walk = l.n-iterator in
+    let k = g.M.CostModel.costing in
     let p = g.S.Store.program l.store in
-    Stands l.cursor.at p.order
-    × (price_words g.M.CostModel.costing (at p) l.total l.words (from l.cursor.at p.order)
-    ≡ price_words g.M.CostModel.costing (at p) 0 l.initial.words p.order)
-    × (stamps_left g.M.CostModel.costing (at p) l.words (from l.cursor.at p.order)
-    ≡ stamps_left g.M.CostModel.costing (at p) l.initial.words p.order)
-
-abbrev pub decreases-loop-n : goal.decreases-loop-n
-decreases-loop-n g l = length (from l.cursor.at (g.S.Store.program l.store).order)
+    (walk.store.now ≡ l.store)
+    × (price_words k (at p) l.total l.words (from walk.at p.order) ≡ price_words k (at p) 0 l.initial.words p.order)
+    × (stamps_left k (at p) l.words (from walk.at p.order) ≡ stamps_left k (at p) l.initial.words p.order)

@@ -1,4 +1,4 @@
-use Rattle.std.proofs.Common.{◌≡◌, ◌-◌, ◌≤◌, min, length, take, replicate, sym, ap, ◌∙◌, subst, arith}
+use Rattle.std.proofs.Common.{◌≡◌, ◌≤◌, min, length, take, replicate, sym, ap, ◌∙◌, subst, arith}
 use Rattle.std.proofs.lemmas.List.{length-take}
 use Rattle.program.specs.Programs.{new_program}
 use Rattle.program.proofs.Keeping.{new_is_proper}
@@ -12,8 +12,8 @@ use Rattle.linked.proofs.linked.Linked.new.Goals as goal
 pub invariant_of-result : goal.invariant_of-result
 invariant_of-result c =
     let n = c.min-n.result in
-    let l = length-take (n - 0) c.args.cells.now in
-    let m : length (take (n - 0) c.args.cells.now) ≡ n = omega arith in
+    let l = length-take n c.args.cells.now in
+    let m : length (take n c.args.cells.now) ≡ n = omega arith in
     let few : n ≤ 1024 = omega arith in
     let e : c.clear.new.cells ≡ replicate n blank_cell = c.clear.ensures ∙ ap (λ k. replicate k blank_cell) m in
     fields c.clear.new.cells n n (subst (λ xs. Sound xs n n) (sym e) (sound_fresh n few)) (new_program n) (ap (λ xs. linked_program xs n) e ∙ program_fresh n few) (new_is_proper n few)
@@ -21,8 +21,8 @@ invariant_of-result c =
 pub returns : goal.returns
 returns c =
     let n = c.min-n.result in
-    let l = length-take (n - 0) c.args.cells.now in
-    let m : length (take (n - 0) c.args.cells.now) ≡ n = omega arith in
+    let l = length-take n c.args.cells.now in
+    let m : length (take n c.args.cells.now) ≡ n = omega arith in
     let few : n ≤ 1024 = omega arith in
     let q : n ≡ min (length c.args.cells.now) 1024 = omega arith in
     let e : c.clear.new.cells ≡ replicate n blank_cell = c.clear.ensures ∙ ap (λ k. replicate k blank_cell) m in

@@ -4,11 +4,8 @@ use Rattle.std.proofs.lemmas.List.{length-map}
 use Rattle.program.proofs.Accepting.{busy_inside}
 use Rattle.program.proofs.Unused.{free_unused}
 use Rattle.linked.specs.LinkedModel.{content, bodies, linked_program}
-use Rattle.linked.proofs.Held.{store_sound, store_proper}
+use Rattle.linked.proofs.Held.{store_proper}
 use Rattle.linked.proofs.linked.LinkedLook.is_unused.Goals as goal
-
-pub is_unused-requires-clause-listed : goal.is_unused-requires-clause-listed
-is_unused-requires-clause-listed c = (store_sound c.args.self.now).listed
 
 pub returns-then-n-self : goal.returns-then-n-self
 returns-then-n-self c =
