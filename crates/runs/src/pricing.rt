@@ -19,7 +19,10 @@ use program::store::Store;
 fn stamp_of<M: CostModel>(words: &[u32], what: Record) -> u32
     ensures { result ≡ stamp_of M.costing (plain what) (word_at words.now) }
 {
-    let [a, b, c] = what.operands().map(|x| word_of(words, x));
+    let [a, b, c] = what.operands();
+    let a = word_of(words, a);
+    let b = word_of(words, b);
+    let c = word_of(words, c);
     M::stamp(what.op, what.literal, a, b, c)
 }
 
