@@ -15,7 +15,8 @@ use crate::walk::Walk;
 use ir::instruction::Record;
 use program::store::Store;
 
-// The stamp of an instruction whose operands' stamps lie in the words.
+// The stamp of an instruction whose operands' stamps lie in the words. One after another: by `map` a price took up to twice
+// the time.
 fn stamp_of<M: CostModel>(words: &[u32], what: Record) -> u32
     ensures { result ≡ stamp_of M.costing (plain what) (word_at words.now) }
 {
